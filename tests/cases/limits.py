@@ -23,7 +23,8 @@ def test_longest_list(room):
     row = MOST_ROWS + 2  # with the row that is skipped
     advice = f"list.csv row {row}: a list has at most {MOST_ROWS} rows"
     fault = f"fault counts TooMany row {row}\nhelp: {advice}\n"
-    return counted(room, MOST_ROWS) == (0, answers, "") and same(counted(room, row), (1, "", fault))
+    right = counted(room, MOST_ROWS) == (0, answers, "")
+    return right and same(counted(room, MOST_ROWS + 1), (1, "", fault))
 
 
 def test_flood(room):

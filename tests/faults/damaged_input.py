@@ -8,7 +8,7 @@ of them each is tried.
 
 What is answered has to be a named fault, on one line of standard error and with status 1 or 2,
 after whole lines of output; or status 0, whole lines, and nothing on standard error but notes;
-`resend`, and a run with --strict, may also end so with status 1. `grow`, `check` and `lines` print
+`resend`, and a run with --strict or --check, may also end so with status 1. `grow`, `check` and `lines` print
 a line for each fault of a file. Words that aren't right may have the text of their reader, with
 status 2, and may ask for help."""
 import os
@@ -50,8 +50,13 @@ def answer(program, words, given, folder):
     return ended.returncode, ended.stdout, ended.stderr
 
 
+def may_fail(words, out):
+    """Whether a command without a fault may end with status 1: of a check also without output."""
+    return b"--check" in words or (out and (b"--strict" in words or b"resend" in words))
+
+
 def may_be(said, of_words, words=()):
-    (status, out, errors), strict = said, b"--strict" in words
+    status, out, errors = said
     errors = b"".join(
         line
         for line in errors.splitlines(True)
@@ -59,7 +64,7 @@ def may_be(said, of_words, words=()):
     )
     if not LINES.fullmatch(out.decode(errors="replace")):
         return of_words and status == 0 and not errors
-    if not errors and (status == 0 or ((strict or b"resend" in words) and status == 1 and out)):
+    if not errors and (status == 0 or (status == 1 and may_fail(words, out))):
         return True
     if status in (1, 2) and FAULT.fullmatch(errors):
         return True

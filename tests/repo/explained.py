@@ -7,7 +7,7 @@ import re
 from common.room import ROOT, Failed, none_of, repository_text
 
 # the pages of the reference, in docs/
-PAGES = ("FORMATS", "REPLIES", "COMMANDS", "REPORTS", "FAULTS", "STORE")
+PAGES = ("FORMATS", "REPLIES", "COMMANDS", "REPORTS", "FAULTS", "STORE", "SEALS")
 NAME = r"[A-Z][A-Za-z]+"
 # names one after the other, each with what it means, from these words to the end of the paragraph
 LISTS = ("The faults of a text, ", "Faults of a line, ", "Refusals, ", "Why it isn't opened, ")
@@ -30,6 +30,8 @@ ENUMS = {
     "station_files/src/gap_fault.rt": ["GapFault"],
     "register_store/src/fault.rt": ["ReadFault"],
     "register_store/src/store_fault.rt": ["StoreFault"],
+    "seal_core/src/reading.rt": ["LineFault"],
+    "seal_core/src/receipt_fault.rt": ["ReceiptFault"],
 }
 # a variant that is printed as `fault memory`
 UNPRINTED = {"NoMemory"}
@@ -68,6 +70,8 @@ REPLIES += [
 REPLIES += ["to", "into", "out", "not sent", "no target", "no day", "nothing", "not understood"]
 # those of the commands that prepare lines or check files
 REPLIES += ["table", "lines", "same", "other", "waits", "ok"]
+# those of seals and receipts
+REPLIES += ["holds", "broken", "seal", "receipt"]
 
 
 def formats_names(formats):

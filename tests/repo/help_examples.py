@@ -5,15 +5,18 @@ import subprocess
 from common.help import commands, examples
 from common.museum import LOAN, SETUP, move, scan, scans
 from common.room import none_of
+from oracle.seals import seal_of
 
 FILES = {
     "museum.csv": SETUP,
-    "monday.jsonl": scans(LOAN),
+    "monday.jsonl": scans([*LOAN, move("C2", "S1")]),
     "shelves.csv": "S1,2001.4.3\nS2\n",
     "packing.jsonl": "",
     "gallery.jsonl": "",
     "moves.csv": "kind,thing,place,day\nmove,2001.4.1,S1-A,2024-06-01\n",
     "gal.jsonl": scan(1, move("C2", "S1"), "GAL"),
+    # the seal of no entries, which every record has
+    "seals.txt": seal_of([]),
 }
 
 

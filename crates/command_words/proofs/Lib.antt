@@ -3,6 +3,7 @@ pub mod WorkedRows
 pub mod WorkedCompletion
 pub mod WorkedDesk
 pub mod WorkedPreparation
+mod WorkedSealing
 pub mod Settling
 pub mod Splitting
 pub mod Missing

@@ -26,6 +26,8 @@ is_simple name.Away = refl
 is_simple name.History = refl
 is_simple name.Migrate = refl
 is_simple name.Copy = refl
+is_simple name.Seal = refl
+is_simple name.Receipt = refl
 is_simple name.Grow = refl
 is_simple name.Setup = refl
 is_simple name.Explain = refl
@@ -56,6 +58,8 @@ is_plain name.Away = refl
 is_plain name.History = refl
 is_plain name.Migrate = refl
 is_plain name.Copy = refl
+is_plain name.Seal = refl
+is_plain name.Receipt = refl
 is_plain name.Grow = refl
 is_plain name.Setup = refl
 is_plain name.Explain = refl
@@ -88,8 +92,9 @@ simple_overview app e = ap is_simple_and_free e ∙ overview_is_simple
 abbrev pub all : List Name
 all = name.Replay ∷ name.Serve ∷ name.Desk ∷ name.Lines ∷ name.Check ∷ name.Gap ∷ name.Resend
     ∷ name.Count ∷ name.Audit ∷ name.Overdue ∷ name.Away ∷ name.History ∷ name.Migrate
-    ∷ name.Copy ∷ name.Grow ∷ name.Setup ∷ name.Explain ∷ name.Stations ∷ name.Where ∷ name.Contents ∷ name.Loan ∷ name.At ∷ name.Posted
-    ∷ name.Loans ∷ name.Dues ∷ name.Why ∷ []
+    ∷ name.Copy ∷ name.Seal ∷ name.Receipt ∷ name.Grow ∷ name.Setup ∷ name.Explain
+    ∷ name.Stations ∷ name.Where ∷ name.Contents ∷ name.Loan ∷ name.At ∷ name.Posted ∷ name.Loans
+    ∷ name.Dues ∷ name.Why ∷ []
 
 all_is_overview : with_commands program_alone all ≡ overview
 unfolding app_by
@@ -134,6 +139,8 @@ app_is name.Away = refl
 app_is name.History = refl
 app_is name.Migrate = refl
 app_is name.Copy = refl
+app_is name.Seal = refl
+app_is name.Receipt = refl
 app_is name.Grow = refl
 app_is name.Setup = refl
 app_is name.Explain = refl

@@ -1,4 +1,4 @@
--- Defines the twenty-seven commands: the arguments that `clap` knows of each, and the values that
+-- Defines the twenty-nine commands: the arguments that `clap` knows of each, and the values that
 -- each needs.
 use Rattle.std.specs.Prelude.{◌∷◌, [], ℕ, Bool, List, None, Option, Some, codes, map, true, false}
 use Rattle.clap.specs.Words.{App, Rule, Text, new_app, new_rule, with_rule}
@@ -39,17 +39,25 @@ unfoldable pub report_app : App → App
 report_app app = with_rule (with_rule (with_rule (with_rule app (option_rule (codes "upto")))
     (flag_rule (codes "csv"))) (flag_rule (codes "json"))) (flag_rule (codes "table"))
 
--- A command: its arguments, the values that it can't do without, the flag with which it needs none
--- of them, and whether it is a report, which takes at most one of --csv, --json and --table.
+-- A command: its arguments, the values that it can't do without, the flag or the option with which
+-- it needs none of them, and whether it is a report, which takes at most one of --csv, --json and
+-- --table.
 pub record Form : Type 0 where
   pub app : App
   pub needed : List Text
   pub waiver : Option Text
+  pub other_use : Option Text
   pub is_report : Bool
 
 -- A command that needs these values.
 abbrev pub needing : App → List Text → Form
-needing app ids = record { app = app; needed = ids; waiver = None; is_report = false }
+needing app ids = record {
+  app = app;
+  needed = ids;
+  waiver = None;
+  other_use = None;
+  is_report = false;
+}
 
 -- A command that needs one value.
 abbrev pub one_needed : App → Text → Form
@@ -157,6 +165,19 @@ migrate = both_needed (register_app (codes "migrate"))
 abbrev pub copy : Form
 copy = all_needed (with_rule (register_app (codes "copy")) (option_rule (codes "to"))) (codes "to")
 
+-- The seal of the first entries, or the check of the seals in a file.
+abbrev pub seal : Form
+seal = both_needed
+    (with_options (register_app (codes "seal")) (codes "upto" ∷ codes "check" ∷ []))
+
+-- The receipt of an entry, or the check of a receipt in a file, which needs no record.
+abbrev pub receipt : Form
+receipt =
+    record (all_needed
+    (with_rule (with_options (register_app (codes "receipt")) (codes "upto" ∷ codes "check" ∷ []))
+    (word_rule (codes "entry")))
+    (codes "entry")) { other_use = Some (codes "check") }
+
 abbrev pub grow : Form
 grow = both_needed (with_rule (register_app (codes "grow")) (flag_rule (codes "check")))
 
@@ -226,8 +247,8 @@ why = report
 -- The commands other than `help`.
 abbrev pub listed : List Form
 listed = replay ∷ serve ∷ desk ∷ lines ∷ check_files ∷ gap ∷ resend ∷ count ∷ audit ∷ overdue
-    ∷ away ∷ history ∷ migrate ∷ copy ∷ grow ∷ print_setup ∷ explain ∷ stations ∷ where_is
-    ∷ contents ∷ loan ∷ at ∷ posted ∷ loans ∷ dues ∷ why ∷ []
+    ∷ away ∷ history ∷ migrate ∷ copy ∷ seal ∷ receipt ∷ grow ∷ print_setup ∷ explain ∷ stations
+    ∷ where_is ∷ contents ∷ loan ∷ at ∷ posted ∷ loans ∷ dues ∷ why ∷ []
 
 abbrev pub commands : List Form
 commands = help ∷ listed

@@ -5,7 +5,8 @@ use Rattle.command_words.specs.Commands.{Form, at, audit, away, check_files, con
 use Rattle.command_words.specs.Commands.{explain, file_rule, gap, lines, resend}
 use Rattle.command_words.specs.Commands.{desk, dues, flag_rule, grow, loans, print_setup, why}
 use Rattle.command_words.specs.Commands.{help, history, loan, migrate, option_rule, overdue, posted}
-use Rattle.command_words.specs.Commands.{replay, serve, stations, where_is, word_rule, words_rule}
+use Rattle.command_words.specs.Commands.{receipt, replay, seal, serve, stations, where_is}
+use Rattle.command_words.specs.Commands.{word_rule, words_rule}
 use Rattle.command_words.specs.declared.options.Argument.{Argument}
 use Rattle.command_words.specs.declared.options.Kind.{Kind}
 use Rattle.command_words.specs.declared.options.Kind.TheVariants.{File, Flag, Valued, Word, Words}
@@ -46,6 +47,8 @@ app_by name.Away = away.app
 app_by name.History = history.app
 app_by name.Migrate = migrate.app
 app_by name.Copy = copy.app
+app_by name.Seal = seal.app
+app_by name.Receipt = receipt.app
 app_by name.Grow = grow.app
 app_by name.Setup = print_setup.app
 app_by name.Explain = explain.app
@@ -76,6 +79,8 @@ form_by name.Away = away
 form_by name.History = history
 form_by name.Migrate = migrate
 form_by name.Copy = copy
+form_by name.Seal = seal
+form_by name.Receipt = receipt
 form_by name.Grow = grow
 form_by name.Setup = print_setup
 form_by name.Explain = explain

@@ -3,7 +3,7 @@
 -- words, empty if it accepts them, and the values that it then has for each argument.
 use Rattle.std.specs.Prelude.{◌≡◌, ◌≢◌, ◌∷◌, [], ℕ, Bool, List, Option, Result, Some, None}
 use Rattle.std.specs.Prelude.{MatchResult, codes, find, is_some}
-use Rattle.std.specs.Prelude.{◌&&◌, false, if◌then◌else◌, map, not, option_map, slice_get, true}
+use Rattle.std.specs.Prelude.{◌&&◌, ◌||◌, false, if◌then◌else◌, map, not, option_map, slice_get, true}
 use Rattle.std.specs.Prelude.{unwrap_or}
 use Rattle.std.specs.Borrow.{Bor}
 use Rattle.std.specs.List.{list_any}
@@ -20,7 +20,7 @@ use Rattle.clap.specs.declared.error.kind.ErrorKind.TheVariants.{DisplayVersion,
 use Rattle.command_words.specs.Commands.{Form, at, audit, away, check_files, commands, contents}
 use Rattle.command_words.specs.Commands.{copy, count, desk, gap, lines, resend}
 use Rattle.command_words.specs.Commands.{help, history, loan, migrate, overdue, overview, posted}
-use Rattle.command_words.specs.Commands.{explain, replay, serve}
+use Rattle.command_words.specs.Commands.{explain, receipt, replay, seal, serve}
 use Rattle.command_words.specs.Commands.{dues, grow, loans, print_setup, stations, where_is, why}
 use Rattle.command_words.specs.declared.command.Report.{Report}
 use Rattle.command_words.specs.declared.command.Format.{Format}
@@ -219,6 +219,21 @@ IsChosen words (command.Copy setup store to) = IsNamed words (codes "copy")
     × (value copy.app words (codes "setup") ≡ Some setup.now)
     × (value copy.app words (codes "store") ≡ Some store.now)
     × (value copy.app words (codes "to") ≡ Some to.now)
+IsChosen words (command.Seal setup store upto check) = IsNamed words (codes "seal")
+    × (value seal.app words (codes "setup") ≡ Some setup.now)
+    × (value seal.app words (codes "store") ≡ Some store.now)
+    × (value seal.app words (codes "upto") ≡ text_of upto)
+    × (value seal.app words (codes "check") ≡ text_of check)
+IsChosen words (command.Receipt setup store entry upto) = IsNamed words (codes "receipt")
+    × (value receipt.app words (codes "setup") ≡ Some setup.now)
+    × (value receipt.app words (codes "store") ≡ Some store.now)
+    × (value receipt.app words (codes "entry") ≡ Some entry.now)
+    × (value receipt.app words (codes "upto") ≡ text_of upto)
+    × (value receipt.app words (codes "check") ≡ None)
+IsChosen words (command.CheckReceipt file entry upto) = IsNamed words (codes "receipt")
+    × (value receipt.app words (codes "check") ≡ Some file.now)
+    × (value receipt.app words (codes "entry") ≡ text_of entry)
+    × (value receipt.app words (codes "upto") ≡ text_of upto)
 IsChosen words (command.Grow setup store check) = IsNamed words (codes "grow")
     × (value grow.app words (codes "setup") ≡ Some setup.now)
     × (value grow.app words (codes "store") ≡ Some store.now)
@@ -245,11 +260,15 @@ kinds_by (Some form) words =
     if form.is_report then report_kinds form.app words else fault_of form.app words
 kinds_by None words = fault_of overview (codes "pairsalder" ∷ words)
 
--- The values that the command needs: none, if `clap`'s matches have the flag that waives them.
+-- `clap`'s matches have the flag or the option with which the command needs no value.
+abbrev pub is_waived : Form → List Row → Bool
+is_waived form rows =
+    option_map_or (λ flag. is_true (first_of flag rows)) form.waiver false
+    || option_map_or (λ option. is_some (first_of option rows)) form.other_use false
+
+-- The values that the command needs.
 abbrev pub needed_in : Form → List Row → List Text
-needed_in form rows =
-    if option_map_or (λ flag. is_true (first_of flag rows)) form.waiver false then []
-    else form.needed
+needed_in form rows = if is_waived form rows then [] else form.needed
 
 -- A value that the command needs is missing, or no command is named.
 abbrev pub lacks : Option Form → List Text → Bool

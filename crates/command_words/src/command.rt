@@ -191,6 +191,27 @@ pub enum Chosen<'a> {
         store: &'a str,
         to: &'a str,
     },
+    /// Prints the seal of the first `upto` entries, or of all entries. With `check` it checks the
+    /// seals in a file instead.
+    Seal {
+        setup: &'a str,
+        store: &'a str,
+        upto: Option<&'a str>,
+        check: Option<&'a str>,
+    },
+    /// Prints the receipt of an entry under the seal of the first `upto` entries, or of all entries.
+    Receipt {
+        setup: &'a str,
+        store: &'a str,
+        entry: &'a str,
+        upto: Option<&'a str>,
+    },
+    /// Checks the receipt in a file. Neither an entry nor `upto` should be given with it.
+    CheckReceipt {
+        file: &'a str,
+        entry: Option<&'a str>,
+        upto: Option<&'a str>,
+    },
     /// Adds what the setup file lists to the store's setup. With `check` it prints what it would
     /// add, and changes nothing.
     Grow {

@@ -1,6 +1,6 @@
 //! Reads the words of a command line, and returns the command that they choose.
 //!
-//! [`words::chosen`] returns a [`Chosen`]: one of twenty-seven commands with its values, among them
+//! [`words::chosen`] returns a [`Chosen`]: one of twenty-nine commands with its values, among them
 //! the [`Format`] of a report. `clap` does the reading; a [`WordsFault`] carries its error and has
 //! the program's exit status. [`completion::complete`] adds a default setup and store to the words,
 //! and [`needs::list_missing`] lists the arguments that they lack. [`desk::asked`] reads the words
@@ -38,6 +38,9 @@ mod questions;
 mod reading;
 mod report_reading;
 mod report_texts;
+mod sealing;
+mod sealing_arguments;
+mod sealing_texts;
 mod shapes;
 mod texts;
 pub mod words;

@@ -94,10 +94,10 @@ Prints a row for each line of FILE: the line's number, and one of these words.
 
 Example:
   pairsalder resend --setup museum.csv --store museum.db --station GAL gal.jsonl
-prints
-  6 same
-  7 next
-  8 waits for 7
+prints, if the file has the numbers 7, 8 and 10 and the record has 7,
+  1 same
+  2 next
+  3 waits for 9
 
 Exit status: 0 the file can be sent; 1 a fault, or a line is other or bad, or
 waits for a number that is not in the file; 2 a usage error, or the setup has no

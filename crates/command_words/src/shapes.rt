@@ -16,9 +16,10 @@ use crate::preparation_arguments::{
     CHECKED_COUNTS, CHECKED_LINES, CHECKED_SETUP, DATES, FILLER, FIRST, MOVE_DAY, OWN_FILE,
     ROW_DAY, ROW_KIND, ROW_LOAN, ROW_NAME, ROW_PLACE, SENDER, SHEET, STRICT_ROWS,
 };
-use crate::reading::is_set;
+use crate::reading::{is_set, one};
+use crate::sealing_arguments::{RECEIPT_FILE, SEALED_ENTRIES, SEALED_ENTRY, SEALS};
 use crate::texts::{self, Help};
-use crate::{preparation_texts, report_texts};
+use crate::{preparation_texts, report_texts, sealing_texts};
 use clap::{ArgMatches, Command};
 use std::alloc::{AllocError, Global};
 
@@ -42,6 +43,8 @@ pub(crate) enum Name {
     History,
     Migrate,
     Copy,
+    Seal,
+    Receipt,
     Grow,
     Setup,
     Explain,
@@ -58,7 +61,7 @@ pub(crate) enum Name {
 }
 
 /// The commands in the order of the help. `help` is left out, because `clap` adds it.
-const NAMES: [Name; 26] = [
+const NAMES: [Name; 28] = [
     Name::Replay,
     Name::Serve,
     Name::Desk,
@@ -73,6 +76,8 @@ const NAMES: [Name; 26] = [
     Name::History,
     Name::Migrate,
     Name::Copy,
+    Name::Seal,
+    Name::Receipt,
     Name::Grow,
     Name::Setup,
     Name::Explain,
@@ -106,6 +111,8 @@ fn word_of(name: Name) -> &'static str
         Name::History => "history",
         Name::Migrate => "migrate",
         Name::Copy => "copy",
+        Name::Seal => "seal",
+        Name::Receipt => "receipt",
         Name::Grow => "grow",
         Name::Setup => "setup",
         Name::Explain => "explain",
@@ -149,18 +156,19 @@ pub(crate) fn find_command(words: &[&str]) -> Option<Name>
 }
 
 /// Returns the ids of the arguments that the command needs, in the order of its usage: none for the
-/// cards of a desk.
+/// cards of a desk, or for the check of a receipt.
 #[tactic(auto, unfolding(crate::specs::Tables::form_by))]
 pub(crate) fn needs_in(name: Name, matches: &ArgMatches<'_>) -> &'static [&'static str]
     ensures { texts_of result.now ≡ needed_in (form_by name) (rows_of (found_of matches.now)) }
 {
     match name {
         Name::Desk if is_set(matches, "cards") => &[],
+        Name::Receipt if one(matches, "check").is_some() => &[],
         _ => needs_of(name),
     }
 }
 
-/// The ids of the arguments that the command needs without such a flag.
+/// The ids of the arguments that the command needs otherwise.
 #[tactic(auto, unfolding(crate::specs::Tables::form_by))]
 fn needs_of(name: Name) -> &'static [&'static str]
     ensures { texts_of result.now ≡ (form_by name).needed }
@@ -183,6 +191,8 @@ fn needs_of(name: Name) -> &'static [&'static str]
         Name::Why => &["setup", "store", "entry"],
         Name::History | Name::Where | Name::Contents | Name::Loan => &["setup", "store", "code"],
         Name::Copy => &["setup", "store", "to"],
+        Name::Seal => &["setup", "store"],
+        Name::Receipt => &["setup", "store", "entry"],
         Name::Explain => &["name"],
         Name::At => &["setup", "store", "place"],
         Name::Help => &[],
@@ -206,6 +216,8 @@ fn help_of(name: Name) -> &'static Help {
         Name::History => &report_texts::HISTORY,
         Name::Migrate => &texts::MIGRATE,
         Name::Copy => &texts::COPY,
+        Name::Seal => &sealing_texts::SEAL,
+        Name::Receipt => &sealing_texts::RECEIPT,
         Name::Grow => &texts::GROW,
         Name::Setup => &texts::SETUP,
         Name::Explain => &texts::EXPLAIN,
@@ -265,6 +277,8 @@ fn arguments_of(name: Name) -> &'static [Argument]
         Name::History => &[SETUP, STORE, THING, LONG, UPTO, CSV, JSON, TABLE],
         Name::Migrate => &[SETUP, STORE],
         Name::Copy => &[SETUP, STORE, TO],
+        Name::Seal => &[SETUP, STORE, SEALED_ENTRIES, SEALS],
+        Name::Receipt => &[SETUP, STORE, SEALED_ENTRIES, RECEIPT_FILE, SEALED_ENTRY],
         Name::Grow => &[SETUP, STORE, CHECK],
         Name::Setup => &[STORE],
         Name::Explain => &[WORD],

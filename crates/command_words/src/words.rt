@@ -13,6 +13,7 @@ use crate::questions::{
 };
 use crate::reading::{all, files_of, is_set, needed, one, read, read_by, read_word, record_of};
 use crate::report_reading::{read_report, read_report_and, read_report_and_flag};
+use crate::sealing::{receipt, seal};
 use crate::shapes::{self, Name, find_command};
 use crate::{Asked, Chosen, WordsFault};
 use std::alloc::{AllocError, Global};
@@ -57,6 +58,8 @@ fn named<'a>(alloc: Global, name: Name, words: &'a [&'a str]) -> Result<Chosen<'
         Name::History => history(alloc, words),
         Name::Migrate => migrate(alloc, words),
         Name::Copy => copy(alloc, words),
+        Name::Seal => seal(alloc, words),
+        Name::Receipt => receipt(alloc, words),
         Name::Grow => grow(alloc, words),
         Name::Setup => print_setup(alloc, words),
         Name::Explain => explain(alloc, words),

@@ -205,8 +205,8 @@ pub(crate) const RUN_FAULTS: &[Meaning] = &[
     },
     Meaning {
         word: "number",
-        means: "the text after --from, --to, --upto or why is not a number",
-        cause: "a typing error, for example a letter O in place of a 0.",
+        means: "the argument is not the number of an entry",
+        cause: "a typing error, or a seal of more entries than the record has.",
         action: "write the number of an entry, for example --from 100 or why 17.",
     },
     Meaning {

@@ -27,6 +27,7 @@ mod meaning;
 mod nearest;
 mod pages;
 mod refusals;
+mod seal_words;
 mod sheet_words;
 mod states;
 mod store_faults;

@@ -15,7 +15,7 @@ pub(crate) const REFUSALS: &[Meaning] = &[
         word: "BadNumber",
         means: "a number is 0, too large, or has a leading 0",
         cause: "a station's n of 0 or above 999999, or a code such as C01 or 2001.04.",
-        action: "write 1 to 999999, without a leading 0.",
+        action: "write 1 to 999999, without a leading 0. For a seal, copy the line again.",
     },
     Meaning {
         word: "Double",
@@ -36,14 +36,14 @@ pub(crate) const REFUSALS: &[Meaning] = &[
         means: "the number is more than 256 above the last one on record",
         cause: "earlier numbers are missing, or the number is mistyped.",
         action: "send the number that 'pairsalder stations' prints, then this line again. If\n\
-            it is lost, send a move of a thing that is not in the setup, under that number.",
+            it is lost, 'pairsalder gap' prints a line that fills it.",
     },
     Meaning {
         word: "held",
         means: "the message waits for an earlier number of its station",
         cause: "an earlier line is missing, or could not be read.",
         action: "send the number that 'pairsalder stations' prints, then this line again. If\n\
-            it is lost, send a move of a thing that is not in the setup, under that number.",
+            it is lost, 'pairsalder gap' prints a line that fills it.",
     },
     Meaning {
         word: "refused",

@@ -7,6 +7,7 @@ use crate::desk_words::DESK_WORDS;
 use crate::faults::{INPUT_FAULTS, RUN_FAULTS};
 use crate::nearest::nearest_in;
 use crate::refusals::REFUSALS;
+use crate::seal_words::SEAL_WORDS;
 use crate::sheet_words::SHEET_WORDS;
 use crate::states::{ANSWERS, COUNT_ANSWERS, STAGES};
 use crate::store_faults::STORE_FAULTS;
@@ -27,6 +28,7 @@ enum Subject {
     CountAnswers,
     DeskWords,
     SheetWords,
+    SealWords,
     Columns,
 }
 
@@ -42,6 +44,7 @@ const SUBJECTS: &[Subject] = &[
     Subject::CountAnswers,
     Subject::DeskWords,
     Subject::SheetWords,
+    Subject::SealWords,
     Subject::Columns,
 ];
 
@@ -59,6 +62,7 @@ fn words_of(subject: Subject) -> &'static [Meaning] {
         Subject::CountAnswers => COUNT_ANSWERS,
         Subject::DeskWords => DESK_WORDS,
         Subject::SheetWords => SHEET_WORDS,
+        Subject::SealWords => SEAL_WORDS,
         Subject::Columns => COLUMNS,
     }
 }

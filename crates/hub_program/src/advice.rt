@@ -1,6 +1,7 @@
 //! The `help:` lines about files: the cause of a fault, and what the user can do.
 
 use label_core::LabelFault;
+use posting_core::EntryNo;
 use sheet_core::SheetFault;
 use station_core::Refusal;
 use station_files::GapFault;
@@ -100,6 +101,21 @@ pub fn on_gap(alloc: Global, name: &str, fault: GapFault) -> Advice {
         ).ok(),
         _ => format!(in alloc; "{name} has posted its last number: use another station").ok(),
     }
+}
+
+/// Returns the advice on a seal or a receipt that can't be made, for a record of so many entries.
+pub fn on_unposted(alloc: Global, entries: EntryNo, upto: Option<EntryNo>) -> Advice {
+    match upto {
+        Some(upto) if upto <= entries => format!(in alloc;
+            "ENTRY is not one of the first {upto} entries"
+        ).ok(),
+        _ => format!(in alloc; "entries on record: {entries}").ok(),
+    }
+}
+
+/// Returns the advice on a check together with arguments that it has no use for.
+pub fn on_check_alone(alloc: Global) -> Advice {
+    format!(in alloc; "--check takes a file alone: leave out --upto and ENTRY").ok()
 }
 
 /// Returns the advice on an argument that is not what it has to be.

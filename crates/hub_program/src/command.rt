@@ -19,6 +19,7 @@ use crate::lines::write_line;
 use crate::progress::Progress;
 use crate::reporting::reported;
 use crate::resending::{ResendWords, compare_file};
+use crate::sealing::{ReceiptWords, SealWords, check_given, give_receipt, seal_record};
 use crate::serving::served;
 use crate::store::{self, Begins, ClosedStore, closed_if, open_if};
 use crate::tables::print_lines;
@@ -168,6 +169,39 @@ fn perform<
         Chosen::Copy { setup, store, to } => {
             let closed = copied(rt, setup, store, to, start, again, output)?;
             Ok(Ending::Done(Some(closed)))
+        }
+        Chosen::Seal {
+            setup,
+            store,
+            upto,
+            check,
+        } => {
+            let wanted = SealWords {
+                setup,
+                store,
+                upto: *upto,
+                check: *check,
+            };
+            seal_record(rt, wanted, start, input, output, notes)
+        }
+        Chosen::Receipt {
+            setup,
+            store,
+            entry,
+            upto,
+        } => {
+            let wanted = ReceiptWords {
+                setup,
+                store,
+                entry,
+                upto: *upto,
+            };
+            let closed = give_receipt(rt, wanted, start, output)?;
+            Ok(Ending::Done(Some(closed)))
+        }
+        Chosen::CheckReceipt { file, entry, upto } => {
+            let others = entry.is_some() || upto.is_some();
+            check_given(rt, file, others, input, output, notes)
         }
         Chosen::Grow {
             setup,

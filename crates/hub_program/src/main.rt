@@ -42,6 +42,7 @@ mod reporting;
 mod request;
 mod resending;
 mod row_advice;
+mod sealing;
 mod serving;
 mod station;
 mod store;

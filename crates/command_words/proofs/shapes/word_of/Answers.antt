@@ -60,6 +60,14 @@ pub returns-in-Copy : goal.returns-in-Copy
 unfolding app_by register_app report_app
 returns-in-Copy c = ap (λ (n : Name). (app_by n).top.name) (sym c.in-Copy.is)
 
+pub returns-in-Seal : goal.returns-in-Seal
+unfolding app_by register_app report_app
+returns-in-Seal c = ap (λ (n : Name). (app_by n).top.name) (sym c.in-Seal.is)
+
+pub returns-in-Receipt : goal.returns-in-Receipt
+unfolding app_by register_app report_app
+returns-in-Receipt c = ap (λ (n : Name). (app_by n).top.name) (sym c.in-Receipt.is)
+
 pub returns-in-Grow : goal.returns-in-Grow
 unfolding app_by register_app report_app
 returns-in-Grow c = ap (λ (n : Name). (app_by n).top.name) (sym c.in-Grow.is)

@@ -158,6 +158,28 @@ returns-in-Copy c =
     chooses_by c.args.name _ (texts_of c.args.words.now) _ c.requires
     c.in-Copy.is c.copy.ensures
 
+pub seal-requires : goal.seal-requires
+unfolding form_by register_app report_app
+seal-requires c =
+    named_by c.args.name _ (texts_of c.args.words.now) c.requires c.in-Seal.is
+
+pub returns-in-Seal : goal.returns-in-Seal
+unfolding form_by
+returns-in-Seal c =
+    chooses_by c.args.name _ (texts_of c.args.words.now) _ c.requires
+    c.in-Seal.is c.seal.ensures
+
+pub receipt-requires : goal.receipt-requires
+unfolding form_by register_app report_app
+receipt-requires c =
+    named_by c.args.name _ (texts_of c.args.words.now) c.requires c.in-Receipt.is
+
+pub returns-in-Receipt : goal.returns-in-Receipt
+unfolding form_by
+returns-in-Receipt c =
+    chooses_by c.args.name _ (texts_of c.args.words.now) _ c.requires
+    c.in-Receipt.is c.receipt.ensures
+
 pub grow-requires : goal.grow-requires
 unfolding form_by register_app report_app
 grow-requires c =

@@ -1,0 +1,129 @@
+"""The examples of the pages for users print what the pages show."""
+import os
+import pathlib
+import re
+import shutil
+import subprocess
+
+from common.room import ROOT, none_of
+
+NAMED = "export PAIRSALDER_SETUP=museum.csv PAIRSALDER_STORE=museum.db"
+DAYS = "for day in monday tuesday wednesday; do pairsalder replay < $day.jsonl; done"
+BENCH = (
+    "pairsalder desk --station PACKING --day 2024-06-03 < monday.txt;"
+    "pairsalder desk --station PACKING < tuesday.txt"
+)
+LISTS = "printf 'A-2,1987.12.2\\nA-2,1991.4.7\\nA-1\\n' > shelves.csv; echo PACK,C1 > crates.csv"
+GROWN = (
+    "pairsalder replay < thursday.jsonl; pairsalder grow --setup new.csv;"
+    "pairsalder setup > grown; mv grown museum.csv; pairsalder replay < friday.jsonl"
+)
+# where examples run: the folder that is copied, and what is done there first
+PLACES = {
+    "audit": ("examples/three-days", f"{NAMED}; {DAYS}; {LISTS}"),
+    "bench": ("examples/bench", f"{NAMED}; {BENCH}"),
+    "data": ("examples/three-days", f"{NAMED}; {DAYS}; {GROWN}"),
+    "days": ("examples/three-days", ":"),
+    "seals": ("cases/seals", f"{NAMED}; pairsalder replay < start.jsonl"),
+}
+# the pages, and from which heading on their examples run where; None for those that aren't run
+PAGES = {
+    "AUDIT": {"": "audit", "Find out why": "bench", "List the loans": "audit"},
+    "DATA": {"": "data"},
+    "SEALS": {"": "seals"},
+    "USING": {"": None, "A day's messages": "days"},
+}
+# the blocks that a page says to save: how each begins, and the name of its file
+SAVED = {"import hashlib": "seal.py", "CREATE TEMP VIEW": "names.sql"}
+
+
+def blocks(page):
+    """The indented blocks of a page, each with its heading."""
+    heading, lines = "", []
+    for line in page.splitlines() + [""]:
+        if line.startswith("    "):
+            lines.append(line[4:])
+            continue
+        if lines:
+            yield heading, lines
+        lines = []
+        if line.startswith("#"):
+            heading = line.lstrip("# ")
+
+
+def examples(lines):
+    """The commands of a block, each with the lines below it; None if there are none."""
+    text = "".join(line + "\n" for line in lines)
+    for example in re.findall(r"^\$ (?:.*\n)(?:(?!\$ ).*\n)*", text, re.M):
+        command, _, shown = example.partition("\n")
+        yield command[2:], shown or None
+
+
+def is_shown(shown, printed):
+    """Whether a page shows what is printed. A line of three points stands for any lines."""
+    start, points, end = shown.partition("...\n")
+    if points:
+        return printed.startswith(start) and printed.endswith(end)
+    return printed == shown
+
+
+class Shell:
+    """A shell in a copy of a folder, with the program on its path."""
+
+    def __init__(self, room, place):
+        source, first = PLACES[place]
+        self.folder = shutil.copytree(os.path.join(ROOT, source), room.path(place))
+        path = room.path("bin") + os.pathsep + os.environ["PATH"]
+        self.shell = subprocess.Popen(
+            ["bash"],
+            cwd=self.folder,
+            env=os.environ | {"PATH": path},
+            stdin=subprocess.PIPE,
+            stdout=subprocess.PIPE,
+            stderr=subprocess.STDOUT,
+            text=True,
+        )
+        self.printed(first)
+
+    def printed(self, command):
+        """What a command prints, with its errors."""
+        self.shell.stdin.write(f"{{ {command}\n}} < /dev/null\necho; echo END OF EXAMPLE\n")
+        self.shell.stdin.flush()
+        lines = iter(self.shell.stdout.readline, "END OF EXAMPLE\n")
+        return "".join(lines)[:-1]
+
+    def end(self):
+        self.shell.stdin.close()
+        self.shell.wait()
+        self.shell.stdout.close()
+
+
+def wrong(room, page):
+    """The examples of a page that print something else."""
+    shells, place = {}, None
+    text = pathlib.Path(ROOT, "docs", f"{page}.md").read_text(encoding="utf-8")
+    for heading, lines in blocks(text):
+        starts = [it for it in PAGES[page] if it and heading.startswith(it)]
+        place = PAGES[page][starts[0]] if starts else place or PAGES[page][""]
+        if place is None:
+            continue
+        if place not in shells:
+            shells[place] = Shell(room, place)
+        for first, name in SAVED.items():
+            if lines[0].startswith(first):
+                pathlib.Path(shells[place].folder, name).write_text("\n".join(lines) + "\n")
+        for command, shown in examples(lines):
+            if command.startswith("in2csv ") and not shutil.which("in2csv"):
+                continue
+            printed = shells[place].printed(command)
+            if shown is not None and not is_shown(shown, printed):
+                yield f"{page}: $ {command}\n  prints {printed!r}\n  shown  {shown!r}"
+    for shell in shells.values():
+        shell.end()
+
+
+def test_page_examples(room):
+    """Each `$` line of AUDIT, DATA, SEALS and USING prints what the page shows, errors included."""
+    os.mkdir(room.path("bin"))
+    os.symlink(room.program, room.path("bin/pairsalder"))
+    return none_of(it for page in PAGES for it in wrong(room, page))
