@@ -9,6 +9,7 @@ mod counts;
 mod lanes;
 mod merkle_heads;
 mod messages;
+mod plain_lines;
 mod reopening;
 mod serving;
 

@@ -1,0 +1,9 @@
+mod Lexemes
+mod Lacking
+mod Reading
+mod Places
+mod Refusals
+mod Numerals
+mod NumberTexts
+mod Runs
+mod WorkedTexts
