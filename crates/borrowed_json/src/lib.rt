@@ -1,7 +1,8 @@
 //! JSON values that borrow their text, and access to the fields of any JSON value.
 //!
-//! [`Value::from_slice`] reads a value in one pass. It borrows from the text and from a
-//! [`Scratch`], which is memory for one text after another. [`Fields`] reads the fields of a value,
+//! [`Value::from_slice`] reads a value. It borrows from the text and from a [`Scratch`], which is
+//! memory for one text after another. Plain JSON, as most lines of input have it, is read straight
+//! from the bytes, and any other text from its tokens. [`Fields`] reads the fields of a value,
 //! whether it is a borrowed [`Value`] or an owned `serde_json::Value`. Contracts see both as the
 //! same data.
 //!
@@ -18,6 +19,7 @@
 mod fault;
 mod fields;
 mod number;
+mod plain;
 mod reader;
 mod scratch;
 mod value;

@@ -1,5 +1,6 @@
-//! Reads values in one pass over the tokens of a text.
-ghost use Rattle.std.specs.Prelude.{◌≡◌, ◌<◌, length, Some, None, Err, IfOk, OnOk, IsUtf8};
+//! Reads a value: a plain text straight from its bytes, any other text from its tokens.
+ghost use Rattle.std.specs.Prelude.{◌≡◌, ◌<◌, length, Some, None, Err};
+ghost use Rattle.std.specs.Prelude.{IfOk, OnOk, IsUtf8};
 ghost use Rattle.json.specs.Json.{value, items, members};
 ghost use Rattle.serde_json.specs.Data.{no_members};
 ghost use Rattle.serde_json.specs.Read.{of_json, of_items, of_members, converted};
@@ -7,6 +8,7 @@ ghost use Rattle.serde_json.specs.Read.{read as read_text};
 ghost use Rattle.borrowed_json.specs.View.{view, items_view, members_view};
 
 use crate::number::number_of;
+use crate::plain::plain_value;
 use crate::{Scratch, TextFault, TokenScratch, Value};
 use bumpalo::Bump;
 use bumpalo::collections::into_bump_slice;
@@ -50,10 +52,26 @@ impl<'a> Value<'a> {
         ensures not_json { result ≡ Err TextFault.NotJson → IsUtf8 bytes.now
             → read_text bytes.now ≡ None }
     {
-        match str::from_utf8(bytes) {
-            Ok(text) => read_all(text, tokens, lists),
-            Err(_) => Err(TextFault::NotJson),
+        match plain_value(bytes, lists) {
+            Ok(value) => Ok(value),
+            Err(_) => from_tokens(bytes, tokens, lists),
         }
+    }
+}
+
+/// Returns the value that the bytes spell, read from the tokens of their text.
+fn from_tokens<'a>(
+    bytes: &'a [u8],
+    tokens: &'a mut TokenScratch,
+    lists: &'a Bump,
+) -> Result<Value<'a>, TextFault>
+    ensures ok { IfOk result (λ v. IsUtf8 bytes.now × (read_text bytes.now ≡ Some (view v))) }
+    ensures not_json { result ≡ Err TextFault.NotJson → IsUtf8 bytes.now
+        → read_text bytes.now ≡ None }
+{
+    match str::from_utf8(bytes) {
+        Ok(text) => read_all(text, tokens, lists),
+        Err(_) => Err(TextFault::NotJson),
     }
 }
 

@@ -1,7 +1,7 @@
-//! Plain lines are read in one pass if there is memory. No clause states that NoMemory is the truth.
-use borrowed_json::Fields;
+//! Lines are read if there is memory: plain ones, and one with an escape. No clause promises that
+//! NoMemory comes only after an allocation failed.
+use borrowed_json::{Fields, TextFault, TokenScratch, Value};
 use bumpalo::Bump;
-use plain_json::{Unread, plain_value};
 use std::test::Fail;
 
 // A line as a station sends it, and the same with spaces.
@@ -12,24 +12,37 @@ const LINES: &[&[u8]] = &[
 
 #[test]
 fn read(rt: HostRuntime) -> Result<(), Fail> {
+    let mut tokens = TokenScratch::new(rt.alloc());
     let lists = Bump::new(rt.alloc());
     for line in LINES {
-        assert!(rt; number_of(line, &lists) == Some(7));
+        assert!(rt; number_of(line, &mut tokens, &lists) == Some(7));
     }
     Ok(())
 }
 
 // The number of a line, if the line is read.
-fn number_of(line: &[u8], lists: &Bump) -> Option<u64> {
-    match plain_value(line, lists) {
+fn number_of(line: &[u8], tokens: &mut TokenScratch, lists: &Bump) -> Option<u64> {
+    match Value::in_lists(line, tokens, lists) {
         Ok(value) => value.at("n").and_then(|n| n.whole_number()),
         Err(_) => None,
     }
 }
 
+// A line with an escape, and one that isn't JSON, are not plain.
 #[test]
 fn unusual(rt: HostRuntime) -> Result<(), Fail> {
+    let mut tokens = TokenScratch::new(rt.alloc());
     let lists = Bump::new(rt.alloc());
-    assert!(rt; matches!(plain_value(b"\"\\n\"", &lists), Err(Unread::Unusual)));
+    assert!(rt; is_line_feed(b"\"\\n\"", &mut tokens, &lists));
+    let unclosed = Value::in_lists(b"[7", &mut tokens, &lists);
+    assert!(rt; matches!(unclosed, Err(TextFault::NotJson)));
     Ok(())
+}
+
+// Whether a line is read as a line feed.
+fn is_line_feed(line: &[u8], tokens: &mut TokenScratch, lists: &Bump) -> bool {
+    match Value::in_lists(line, tokens, lists) {
+        Ok(value) => value.text() == Some("\n"),
+        Err(_) => false,
+    }
 }

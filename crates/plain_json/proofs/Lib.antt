@@ -1,9 +1,0 @@
-mod Lexemes
-mod Lacking
-mod Reading
-mod Places
-mod Refusals
-mod Numerals
-mod NumberTexts
-mod Runs
-mod WorkedTexts
