@@ -1,6 +1,7 @@
 -- What a byte becomes in a page, by cases of the byte.
-use Rattle.std.proofs.Common.{◌≡◌, ℕ, ◌+◌, ◌%◌, ◌/◌, ◌==◌, Bool, true, false, List, [], ◌∷◌}
-use Rattle.std.proofs.Common.{◌++◌, cond, zero, suc, refl, ap, ◌∙◌, arith, nat_lt}
+use Rattle.std.proofs.Common.{◌≡◌, ℕ, ◌+◌, ◌%◌, ◌/◌, ◌==◌, Bool, true}
+use Rattle.std.proofs.Common.{false, List, [], ◌∷◌, ◌++◌, cond, zero, suc, refl, ap}
+use Rattle.std.proofs.Common.{◌∙◌, arith, nat_lt}
 use Rattle.std.specs.Prelude.{◌&&◌, ◌||◌, None, Some, codes, decimal, if◌then◌else◌}
 use Rattle.std.specs.Fmt.{digit_glyph, digits, digits_onto}
 use Rattle.std.specs.List.{flat_map}
@@ -19,7 +20,8 @@ by_kind a l g q s b = option_map_or (λ (r : ℕ × List ℕ). r.1)
     (cond s (Some (39, codes "&#39;")) None))))) (b ∷ [])
 
 no_marks : (a l g q s : Bool) (b : ℕ)
-    → marks (b ∷ []) ≡ cond (l || g || q || s) (b ∷ []) [] → marks (by_kind a l g q s b) ≡ []
+    → marks (b ∷ []) ≡ cond (l || g || q || s) (b ∷ []) []
+    → marks (by_kind a l g q s b) ≡ []
 no_marks true l g q s b h = refl
 no_marks false true g q s b h = refl
 no_marks false false true q s b h = refl
@@ -67,11 +69,13 @@ glyph d = below (nat_lt d 10) refl
         letter : is_mark (87 + d) ≡ false
         letter = grind arith
 
-pick : (b : Bool) (x y : List ℕ) → marks x ≡ [] → marks y ≡ [] → marks (cond b x y) ≡ []
+pick : (b : Bool) (x y : List ℕ) → marks x ≡ [] → marks y ≡ []
+    → marks (cond b x y) ≡ []
 pick true x y p q = p
 pick false x y p q = q
 
-first : (d : ℕ) (acc : List ℕ) → marks acc ≡ [] → marks (digit_glyph false d ∷ acc) ≡ []
+first : (d : ℕ) (acc : List ℕ) → marks acc ≡ []
+    → marks (digit_glyph false d ∷ acc) ≡ []
 first d acc p =
     ap (λ (b : Bool). cond b (digit_glyph false d ∷ marks acc) (marks acc)) (glyph d) ∙ p
 

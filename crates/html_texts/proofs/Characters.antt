@@ -1,6 +1,7 @@
 -- What a character becomes in a page.
-use Rattle.std.proofs.Common.{◌≡◌, ℕ, ◌+◌, ◌/◌, ◌==◌, ◌≤◌, Bool, true, false, List, [], ◌∷◌}
-use Rattle.std.proofs.Common.{◌++◌, cond, refl, ap, sym, ◌∙◌, arith}
+use Rattle.std.proofs.Common.{◌≡◌, ℕ, ◌+◌, ◌/◌, ◌==◌, ◌≤◌, Bool, true}
+use Rattle.std.proofs.Common.{false, List, [], ◌∷◌, ◌++◌, cond, refl, ap, sym}
+use Rattle.std.proofs.Common.{◌∙◌, arith}
 use Rattle.std.specs.Prelude.{IsUtf8}
 use Rattle.std.specs.Str.{chars}
 use Rattle.std.specs.List.{flat_map}
@@ -11,8 +12,8 @@ use lib.Utf8.{encodes, next}
 use Rattle.html_texts.specs.Escapes.{escaped, escaped_byte}
 
 -- every byte but the five stays
-pub stays : (b : ℕ) → (b ≡ 38 → ⊥) → (b ≡ 60 → ⊥) → (b ≡ 62 → ⊥) → (b ≡ 34 → ⊥) → (b ≡ 39 → ⊥)
-    → escaped_byte b ≡ b ∷ []
+pub stays : (b : ℕ) → (b ≡ 38 → ⊥) → (b ≡ 60 → ⊥) → (b ≡ 62 → ⊥)
+    → (b ≡ 34 → ⊥) → (b ≡ 39 → ⊥) → escaped_byte b ≡ b ∷ []
 stays b a l g q s =
     let ea : (b == 38) ≡ false = grind (arith, a) in
     let el : (b == 60) ≡ false = grind (arith, l) in
@@ -27,15 +28,17 @@ high b h = stays b (λ e. omega arith) (λ e. omega arith) (λ e. omega arith) (
     (λ e. omega arith)
 
 -- of a first byte that stays, and others
-then : (b : ℕ) (t : List ℕ) → escaped_byte b ≡ b ∷ [] → escaped t ≡ t → escaped (b ∷ t) ≡ b ∷ t
+then : (b : ℕ) (t : List ℕ) → escaped_byte b ≡ b ∷ [] → escaped t ≡ t
+    → escaped (b ∷ t) ≡ b ∷ t
 then b t e f = ap (λ x. x ++ escaped t) e ∙ ap (λ x. b ∷ x) f
 
-pick : (b : Bool) (x y : List ℕ) → escaped x ≡ x → escaped y ≡ y → escaped (cond b x y) ≡ cond b x y
+pick : (b : Bool) (x y : List ℕ) → escaped x ≡ x → escaped y ≡ y
+    → escaped (cond b x y) ≡ cond b x y
 pick true x y p q = p
 pick false x y p q = q
 
-pub escaped-encode : (c : ℕ) → (c ≡ 38 → ⊥) → (c ≡ 60 → ⊥) → (c ≡ 62 → ⊥) → (c ≡ 34 → ⊥)
-    → (c ≡ 39 → ⊥) → escaped (encode c) ≡ encode c
+pub escaped-encode : (c : ℕ) → (c ≡ 38 → ⊥) → (c ≡ 60 → ⊥) → (c ≡ 62 → ⊥)
+    → (c ≡ 34 → ⊥) → (c ≡ 39 → ⊥) → escaped (encode c) ≡ encode c
 unfolding encode
 escaped-encode c a l g q s =
     pick _ _ _ (then c [] (stays c a l g q s) refl)
@@ -55,5 +58,6 @@ all_escaped (c ∷ cs) =
     ∙ sym (flat_map-append escaped_byte (encode c) (encodes cs))
 
 -- the characters of a text, each escaped
-pub escaped-chars : (t : List ℕ) → IsUtf8 t → flat_map (λ c. escaped (encode c)) (chars t) ≡ escaped t
+pub escaped-chars : (t : List ℕ) → IsUtf8 t
+    → flat_map (λ c. escaped (encode c)) (chars t) ≡ escaped t
 escaped-chars t h = all_escaped (chars t) ∙ ap escaped (encodes-chars t h)

@@ -1,4 +1,4 @@
--- Defines how a text stands in a page of HTML.
+-- Defines how a text is written in a page of HTML.
 use Rattle.std.specs.Prelude.{ℕ, ◌∷◌, [], ◌==◌, ◌&&◌, ◌||◌, Bool, List, codes}
 use Rattle.std.specs.Prelude.{nat_eq, true, if◌then◌else◌}
 use Rattle.std.specs.List.{find, flat_map, list_any, starts_with}
@@ -13,11 +13,11 @@ references =
     ∷ (34, codes "&quot;")
     ∷ (39, codes "&#39;") ∷ []
 
--- A byte as it stands in the page.
+-- A byte as it is written in the page.
 abbrev pub escaped_byte : ℕ → List ℕ
 escaped_byte b = option_map_or (λ r. r.1) (find (λ r. b == r.0) references) (b ∷ [])
 
--- A text as it stands in the page, between tags or in a quoted attribute.
+-- A text as it is written in the page, between tags or in a quoted attribute.
 abbrev pub escaped : List ℕ → List ℕ
 escaped text = flat_map escaped_byte text
 

@@ -9,7 +9,7 @@ pub data Piece : Type 0 where
   text : List ℕ → Piece
   number : ℕ → Piece
 
--- A piece as it stands in the page.
+-- A piece as it is written in the page.
 abbrev pub piece_text : Piece → List ℕ
 piece_text (markup m) = m
 piece_text (text t) = escaped t

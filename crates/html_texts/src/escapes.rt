@@ -5,8 +5,8 @@ ghost use Rattle.html_texts.specs.Escapes.{escaped};
 
 use std::alloc::{AllocError, Global};
 
-/// Returns the text as it stands in a page of HTML: `&`, `<`, `>` and both quotes as character
-/// references, all else as it is. Fails if memory is refused.
+/// Returns the text as it is written in a page of HTML: `&`, `<`, `>` and both quotes become
+/// character references, and all other characters stay. Fails if memory is refused.
 pub fn escaped(alloc: Global, text: &str) -> Result<String, AllocError>
     ensures { IfOk result (λ shown. string_bytes shown ≡ escaped text.now) }
 {
@@ -17,7 +17,7 @@ pub fn escaped(alloc: Global, text: &str) -> Result<String, AllocError>
     Ok(shown)
 }
 
-/// Appends a character as it stands in a page.
+/// Appends a character as it is written in a page.
 fn push_char(shown: &mut String, c: char) -> Result<(), AllocError>
     ensures { OnOk result
         (string_bytes shown.new ≡ string_bytes shown.old ++ escaped (encode_utf8 c)) }

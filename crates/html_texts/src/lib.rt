@@ -1,7 +1,7 @@
 //! Texts for a page of HTML.
 //!
-//! [`escaped`] returns a text as it stands in a page, between tags or in a quoted attribute: a
-//! browser shows the text, whatever is in it. [`laws`] has what that is worth.
+//! [`escaped`] returns a text as it is written in a page, between tags or in a quoted attribute.
+//! [`laws`] proves that it has no `<`, `>` or quote, and that each `&` begins a reference.
 //!
 //! ```text
 //! escaped(alloc, "Müller & <Sohn>")?      // Müller &amp; &lt;Sohn&gt;
