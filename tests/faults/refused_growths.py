@@ -61,7 +61,7 @@ class Refused:
     def growths(self):
         """How many requests for memory the run makes; it also leaves what stands after it."""
         count = self.files / "growths.txt"
-        said = self.ended(self.files, LD_PRELOAD=self.library, GROWTHS=str(count))
+        said = self.ended(self.files, LD_PRELOAD=self.library, CALLS=str(count))
         if not self.is_whole(said):
             raise Failed(f"{self.name}: with nothing refused it isn't what the case wants: {said}")
         number = int(count.read_text(encoding="ascii"))

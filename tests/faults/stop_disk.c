@@ -1,18 +1,15 @@
 /* Loaded before the C library: a disk that stops. Of the calls on the file whose name ends with NAMED, the FAILED-th fails, and each
    one after it. With no FAILED, or 0, none fails. If LOSES is given, the machine seems to crash when the program ends: each file
-   that it wrote has the bytes of its last fsync. At the end of the run the number of calls is written to the file CALLS, if given. */
+   that it wrote has the bytes of its last fsync. */
 #define _GNU_SOURCE
+#include "counted_calls.h"
 #include <dlfcn.h>
 #include <errno.h>
 #include <fcntl.h>
 #include <limits.h>
-#include <stdio.h>
-#include <stdlib.h>
 #include <string.h>
 #include <sys/stat.h>
-#include <sys/syscall.h>
 #include <sys/types.h>
-#include <unistd.h>
 
 enum { MOST = 64 };
 
@@ -23,14 +20,13 @@ static struct {
     off_t size;
 } unsynced[MOST];
 
-static unsigned long calls, failed;
+static unsigned long failed;
 static const char *named;
 static int loses;
 
 __attribute__((constructor)) static void begin(void)
 {
-    const char *number = getenv("FAILED");
-    failed = number ? strtoul(number, NULL, 10) : 0;
+    failed = number_in("FAILED");
     named = getenv("NAMED");
     loses = getenv("LOSES") != NULL;
 }
@@ -164,21 +160,8 @@ static void crash(void)
     }
 }
 
-static void tell(void)
-{
-    const char *name = getenv("CALLS");
-    FILE *file = name ? fopen(name, "w") : NULL;
-    if (file) {
-        fprintf(file, "%lu\n", calls);
-        fclose(file);
-    }
-}
-
-/* How the program ends. */
 void _exit(int status)
 {
     crash();
-    tell();
-    for (;;)
-        syscall(SYS_exit_group, status);
+    end_counted(status);
 }
