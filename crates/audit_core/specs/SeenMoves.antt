@@ -29,8 +29,8 @@ pub record IsSeenMove (B : Book) (day : ℤ) (rows : List CountRow) (m : Message
 abbrev pub IsUnmoved : Book → List CountRow → CountRow → CountAnswer → Type 0
 IsUnmoved B rows row answer = Contains (unmoved B rows) (answered row answer)
 
--- A row with this answer is accounted for: it agrees with the record; or it has a move, or a note on
--- the container, because its thing was seen elsewhere; or it has another note.
+-- A row with this answer is accounted for: it agrees with the record, or its thing is among those
+-- that were seen elsewhere, or it is among the rows that have a note of their own.
 abbrev pub IsAccountedFor : Book → List CountRow → CountRow → CountAnswer → Type 0
 IsAccountedFor B rows row Counted = ⊤
 IsAccountedFor B rows row Found = ⊤

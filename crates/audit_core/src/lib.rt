@@ -8,7 +8,7 @@
 //! misses. Other rows agree with the record.
 //!
 //! ```text
-//! {"station":"GAL","n":6,"message":{"day":"2024-05-01","kind":"move","place":"S1-A","thing":"2001.4.1"}}
+//! {"station":"GAL","n":6,"message":{"day":"2024-05-01","kind":"move","place":"S1-A","thing":"C2"}}
 //! note: 2001.4.2 was seen at S2 but lies in C1 on record: move it yourself if it was taken out
 //! missing: 2001.4.3 at S1-A on record
 //! ```

@@ -36,7 +36,8 @@ pub fn paths_are_complete()
 {}
 
 /// If the same head is computed from two different leaves at the same place of a tree of the same
-/// size, by any paths, then two different texts have the same SHA-256. The proof constructs them.
+/// size, by any paths of 32-byte hashes, then two different texts have the same SHA-256. The proof
+/// constructs them.
 pub fn leaves_collide()
     ensures { (x y : List ℕ) (i n : ℕ) (p q : List (List ℕ)) (head : List ℕ) → AreHashes p
         → AreHashes q → root_from (leaf_hash x) i n p ≡ Some head
@@ -44,7 +45,8 @@ pub fn leaves_collide()
 {}
 
 /// If the head of a tree is computed from another leaf than the one at that place of the tree, by
-/// any path, then two different texts have the same SHA-256. The proof constructs them.
+/// any path of 32-byte hashes, then two different texts have the same SHA-256. The proof constructs
+/// them.
 pub fn other_leaf_collides()
     ensures { (leaves : List (List ℕ)) (i : ℕ) (leaf other : List ℕ) (path : List (List ℕ))
         → slice_get leaves i ≡ Some leaf → AreHashes path

@@ -20,7 +20,7 @@ pub fn seals_keep_holding()
     ensures { (B : Book) (L : List Entry) (seal : Seal) → Holds B seal → Holds (later B L) seal }
 {}
 
-/// A seal that holds still holds after the setup grows.
+/// A seal that holds for a lawful record still holds after its setup grows.
 pub fn seals_outlast_growth()
     ensures { (S T : Museum) (depth : ℕ) (P : List Entry) (seal : Seal) → Extends S T
         → IsLawful S depth P → Holds (record { museum = S; depth = depth; posted = P }) seal
@@ -36,8 +36,9 @@ pub fn other_pasts_collide()
     heads_collide();
 }
 
-/// If two receipts hold for the same entry of trees of the same size with the same head, and their
-/// lines differ, then two different texts have the same SHA-256. The proof constructs them.
+/// If two receipts hold for the same entry of trees of the same size with the same head, the hashes
+/// of their paths have 32 bytes, and their lines differ, then two different texts have the same
+/// SHA-256. The proof constructs them.
 pub fn other_lines_collide()
     ensures { (one other : Receipt) → ReceiptHolds one → ReceiptHolds other
         → AreHashes one.path.items → AreHashes other.path.items → one.entry ≡ other.entry
@@ -47,8 +48,9 @@ pub fn other_lines_collide()
     leaves_collide();
 }
 
-/// If a receipt holds with the head of a seal that holds, and its line is not that of the record's
-/// entry, then two different texts have the same SHA-256. The proof constructs them.
+/// If a receipt holds with the head and the size of a seal that holds, the hashes of its path have
+/// 32 bytes, and its line is not that of the record's entry, then two different texts have the same
+/// SHA-256. The proof constructs them.
 pub fn other_entries_collide()
     ensures { (B : Book) (seal : Seal) (receipt : Receipt) → Holds B seal → ReceiptHolds receipt
         → AreHashes receipt.path.items → receipt.size ≡ seal.entries → receipt.head ≡ seal.head

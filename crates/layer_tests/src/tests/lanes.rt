@@ -20,7 +20,8 @@ fn send(lane: &mut Lane, thing: ThingCode, count: u32) -> u32 {
 }
 
 /// Sends one question more than a lane has room for through the first of two lanes, and two through
-/// the second, and takes three turns. Returns how many questions came back, and what each turn took.
+/// the second, and takes three turns. Returns how many questions came back, and how many each turn
+/// took.
 fn three_turns(alloc: Global, hub: &mut Hub<PlainRegister>) -> Result<(u32, u32, u32, u32), Fail> {
     let thing = ThingCode::parse(b"2001.4.1")?;
     let (mut lanes, mut intake) = lanes(alloc, 2)?;

@@ -22,8 +22,8 @@ const SECOND: &[u8] =
 const REPLIES: &[u8] = b"GAL 1 posted 1 Applied\nGAL 2 posted 2 Applied\nGAL 4 held\n\
     GAL 2 refused Double\nGAL 3 posted 3 Applied\nGAL ask 2001.4.1 at S1\n";
 
-/// Answers the lines over a hub with the museum and this register. Returns the register, and whether
-/// all ended without a fault.
+/// Answers the lines over a hub with the museum and this register. Returns the register, and
+/// whether all ended without a fault.
 fn replayed(
     alloc: Global,
     register: PlainRegister,
