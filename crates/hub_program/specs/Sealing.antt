@@ -7,8 +7,8 @@ use Rattle.seal_files.specs.Printing.{IsReceiptLine}
 use Rattle.seal_files.specs.ReceiptChecks.{ChecksReceipt}
 use Rattle.seal_files.specs.SealChecks.{Checks}
 
--- How the seals in a file stand to the record, and a note if there is help. The result is whether
--- each line is a seal that holds.
+-- Whether the seals in a file hold, and a note if there is help. The result is whether the file has
+-- a seal, and each line that is not empty is a seal that holds.
 pub record PrintsChecks (L : Book) (bytes : List ℕ) (o o' : Option (List ℕ))
     (notes notes' : List ℕ) (fine : Bool) : Type 0 where
   pub text : List ℕ

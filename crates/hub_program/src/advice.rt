@@ -114,8 +114,8 @@ pub fn on_unposted(alloc: Global, entries: EntryNo, upto: Option<EntryNo>) -> Ad
 }
 
 /// Returns the advice on a check together with arguments that it has no use for.
-pub fn on_check_alone(alloc: Global) -> Advice {
-    format!(in alloc; "--check takes a file alone: leave out --upto and ENTRY").ok()
+pub fn on_check_alone(alloc: Global, others: &str) -> Advice {
+    format!(in alloc; "--check takes a file alone: leave out {others}").ok()
 }
 
 /// Returns the advice on an argument that is not what it has to be.

@@ -13,7 +13,9 @@ use std::io::Write;
 pub enum Ending<'a> {
     /// The command is done.
     Done(Option<ClosedStore<'a>>),
-    /// The command is a strict replay. It is done, but a line was bad, refused or not applied.
+    /// The command is done, and its exit status is 1. A line of a strict replay was bad, refused or
+    /// not applied, a line of a station's file is neither on record nor next, or the seals or the
+    /// receipt of a file don't all hold.
     NotApplied(Option<ClosedStore<'a>>),
     /// The help is printed, and this is the exit status.
     Printed(u8),

@@ -40,8 +40,8 @@ pub struct ReceiptWords<'a> {
     pub upto: Option<&'a str>,
 }
 
-/// Prints the seal of the record, or how the seals in a file stand to it. The command is well only
-/// if each line of the file is a seal that holds.
+/// Prints the seal of the record, or checks the seals in a file. The exit status is 0 only if the
+/// file has a seal, and each line that is not empty is a seal that holds.
 ///
 /// Faults, in this order: Words, if both `--upto` and a file are given; Number, if the value of
 /// `--upto` is no number; those of the file of seals; those of the setup's file, and of the setup;
@@ -66,7 +66,7 @@ pub fn seal_record<'a, S: Start, R: BufRead, W: Write>(
     Ok(Ending::Done(Some(closed)))
 }
 
-/// Prints how the seals in a file stand to the record.
+/// Prints whether the seals in a file hold.
 fn compare_seals<'a, S: Start, R: BufRead, W: Write>(
     rt: &HostRuntime,
     wanted: SealWords<'a>,
@@ -79,7 +79,7 @@ fn compare_seals<'a, S: Start, R: BufRead, W: Write>(
     ensures { IfOk result (λ ending. kept_in ending ≡ Some wanted.entry.store.now) }
 {
     if wanted.upto.is_some() {
-        return Err(CommandFault::Words(on_check_alone(rt.alloc())));
+        return Err(CommandFault::Words(on_check_alone(rt.alloc(), "--upto")));
     }
     let bytes = read_named(rt, file, input)?;
     let (ledger, closed) = read_record(rt, wanted.setup, wanted.store, start)?;
@@ -110,7 +110,7 @@ pub fn give_receipt<'a, S: Start, W: Write>(
     Ok(closed)
 }
 
-/// Checks the receipt in a file, without a record. The command is well only if it holds. `others`
+/// Checks the receipt in a file, without a record. The exit status is 0 only if it holds. `others`
 /// is whether an entry or `--upto` is given, too.
 ///
 /// Faults, in this order: Words, if there are others; those of the file; Faults, if it has no
@@ -126,7 +126,8 @@ pub fn check_given<'a, R: BufRead, W: Write>(
     ensures { IfOk result (λ ending. kept_in ending ≡ None) }
 {
     if others {
-        return Err(CommandFault::Words(on_check_alone(rt.alloc())));
+        let advice = on_check_alone(rt.alloc(), "--upto and ENTRY");
+        return Err(CommandFault::Words(advice));
     }
     let bytes = read_named(rt, file, input)?;
     if print_receipt_check(rt.alloc(), file, past_mark(&bytes), output, notes)? {
@@ -152,8 +153,8 @@ fn print_seal<W: Write>(
     }
 }
 
-/// Prints how the seals in a file stand to the record, and adds help to the notes. Returns whether
-/// each line is a seal that holds. Faults: WriteFailed; NoMemory.
+/// Prints whether the seals in a file hold, and adds help to the notes. Returns whether the file
+/// has a seal, and each line that is not empty is a seal that holds. Faults: WriteFailed; NoMemory.
 fn print_checks<W: Write>(
     alloc: Global,
     ledger: &Ledger,
@@ -215,7 +216,7 @@ fn print_receipt_check<W: Write>(
 /// The note after the check of a receipt.
 fn note_on(holds: bool) -> &'static str {
     if holds {
-        "note: compare the seal with one that you have from another source\n"
+        "note: compare the seal's number and hash with a seal that you have from another source\n"
     } else {
         "help: the receipt was changed: ask the museum for it again\n"
     }
