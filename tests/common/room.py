@@ -11,6 +11,12 @@ MEMORY = "/dev/shm" if os.path.isdir("/dev/shm") else None
 # lines on standard error that explain a fault or note something
 ADVICE = ("help: ", "note: ")
 
+# the errors of a command over museum.db if its fault is in no single entry
+DAMAGED = (
+    "fault store Damaged 0\n"
+    "help: museum.db was changed or damaged: keep the file, and restore the last copy\n"
+)
+
 
 class Failed(Exception):
     """What the program did wrong."""

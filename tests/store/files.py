@@ -8,7 +8,7 @@ import time
 from common.museum import CRATES, LOAN, SETUP, MuseumRoom
 from common.museum import pack, scan, scans
 from common.obstacles import bound_by_rights
-from common.room import same
+from common.room import DAMAGED, same
 from common.sqlite import execute, read
 
 ROOM = MuseumRoom
@@ -330,7 +330,5 @@ def test_copy(room):
     good &= same(over(room, "copy", "museum.db", "--to", "none/m.db"), gone)
     # a damaged store is not copied
     execute(room.store, "UPDATE spot SET day = day + 1 WHERE k = 1")
-    good &= same(
-        over(room, "copy", "museum.db", "--to", "usb/o.db"), (1, "", "fault store Damaged 0\n")
-    )
+    good &= same(over(room, "copy", "museum.db", "--to", "usb/o.db"), (1, "", DAMAGED))
     return good and same(sorted(os.listdir(room.path("usb"))), ["m.db", "n.db-wal"])

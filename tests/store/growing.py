@@ -5,7 +5,7 @@ import subprocess
 
 from common.growing import MORE, asks, file_of, grows, lists, prints, story
 from common.museum import SETUP, MuseumRoom
-from common.room import same, without_advice
+from common.room import DAMAGED, same, without_advice
 from common.sqlite import changed_by, read, settle
 from store.migration import make
 
@@ -261,7 +261,7 @@ def test_most_growths(room):
             ),
             0,
         ),
-        (10_001, (1, "", "fault store Damaged 0\n"), 0),
+        (10_001, (1, "", DAMAGED), 0),
     ]
     for count, wanted, added in ends:
         room.write("museum.db", bytes_of)

@@ -19,7 +19,8 @@ mod paths;
 use crate::advice::Advice;
 use crate::fault::CommandFault;
 use crate::store::advice::{
-    is_no_database, on_no_record, on_opening, on_other_setup, on_refusal, on_statement, store_fault,
+    is_no_database, on_damage, on_no_record, on_opening, on_other_setup, on_other_version,
+    on_refusal, on_statement, store_fault,
 };
 use crate::store::paths::{look, remove_log};
 use nest_core::{Growth, Setup};
@@ -273,7 +274,7 @@ impl<'a, D: Disk + Drop> OpenStore<'a, D> {
 
     /// Closes the store after a fault, and returns the fault with which the command ends: this one.
     /// Store without advice gets the cause as advice, if that is known. OtherSetup gets the command
-    /// that prints the store's own setup.
+    /// that prints the store's own setup, and OtherVersion and Damaged get what the user can do.
     pub fn closed_with(self, rt: &HostRuntime, fault: CommandFault) -> CommandFault {
         if let CommandFault::Store(StoreFault::Store, None) = fault {
             return self.refused(rt);
@@ -285,6 +286,12 @@ impl<'a, D: Disk + Drop> OpenStore<'a, D> {
         match fault {
             CommandFault::Store(StoreFault::OtherSetup, None) => {
                 CommandFault::Store(StoreFault::OtherSetup, on_other_setup(rt.alloc(), path))
+            }
+            CommandFault::Store(StoreFault::OtherVersion, None) => {
+                CommandFault::Store(StoreFault::OtherVersion, on_other_version(rt.alloc(), path))
+            }
+            CommandFault::Store(StoreFault::Damaged(row), None) => {
+                CommandFault::Store(StoreFault::Damaged(row), on_damage(rt.alloc(), path))
             }
             fault => fault,
         }

@@ -30,6 +30,20 @@ pub fn on_other_setup(alloc: Global, path: &str) -> Advice {
     format!(in alloc; "{path} has another setup: {print} {path}").ok()
 }
 
+/// Returns the advice on a store with a row that is wrong.
+pub fn on_damage(alloc: Global, path: &str) -> Advice {
+    format!(in alloc;
+        "{path} was changed or damaged: keep the file, and restore the last copy"
+    ).ok()
+}
+
+/// Returns the advice on a store of another version.
+pub fn on_other_version(alloc: Global, path: &str) -> Advice {
+    format!(in alloc;
+        "{path} has another version: migrate it if it is older, or install the newer program"
+    ).ok()
+}
+
 /// Returns the advice on a store that failed: on the statement that failed or, if none did, on its
 /// tables.
 pub fn on_refusal<S: Alter>(
