@@ -70,14 +70,14 @@ abbrev pub is_bad : CheckedSeal → Bool
 is_bad (checked.Seal entries holds) = false
 is_bad (checked.Bad row fault) = true
 
--- There is a seal, and all lines are seals that hold.
+-- There is a row, and all rows are seals that hold.
 abbrev pub are_fine : List CheckedSeal → Bool
 are_fine [] = false
 are_fine (row ∷ rows) = list_all holds_in (row ∷ rows)
 
--- The help on these rows. Empty if all are seals.
+-- The help on these rows. Empty if there is a row, and all are seals.
 abbrev pub help_on : List CheckedSeal → List ℕ
-help_on [] = codes "help: the file is empty: put a line of 'pairsalder seal' into it\n"
+help_on [] = codes "help: the file has no seal: put a line of 'pairsalder seal' into it\n"
 help_on (row ∷ rows) =
     if list_any is_bad (row ∷ rows)
     then codes "help: a seal is a line such as 80000 sha256:1029.., with 64 digits in lower case\n"

@@ -27,9 +27,10 @@ pub struct CheckedSeals {
     /// A line for each line of the file that is not empty: `80000 holds`, `79000 broken` or
     /// `line 3 bad NoMark`.
     pub text: String,
-    /// Whether the file has a seal, and all its lines are seals that hold.
+    /// Whether the file has a seal, and each line that is not empty is a seal that holds.
     pub is_fine: bool,
-    /// A `help:` line if the file has no seal, or a line that is not one; otherwise empty.
+    /// A `help:` line if the file has no seal, or a line that is neither empty nor a seal;
+    /// otherwise empty.
     pub help: &'static str,
 }
 
@@ -169,7 +170,7 @@ fn help_on(rows: &[CheckedSeal]) -> &'static str
     ensures { result.now ≡ help_on rows.now }
 {
     if rows.is_empty() {
-        return "help: the file is empty: put a line of 'pairsalder seal' into it\n";
+        return "help: the file has no seal: put a line of 'pairsalder seal' into it\n";
     }
     if has_bad(rows) {
         return "help: a seal is a line such as 80000 sha256:1029.., with 64 digits in lower case\n";
