@@ -1,4 +1,4 @@
--- The moves of an audit are what its list found elsewhere.
+-- The moves of an audit are of the things that its list found elsewhere.
 use Rattle.std.specs.Prelude.{ℕ, ℤ, ◌≡◌, ◌⊎◌, true, Contains, List, [], ◌∷◌, Option}
 use Rattle.std.specs.Prelude.{Some, None, filter, is_none, option_map, slice_get}
 use Rattle.std.specs.Prelude.{suc, refl}
@@ -67,7 +67,7 @@ from_seen (r ∷ rows) (a ∷ found) s h = by (sighting_of r a) refl h
         }
         first (inr rest) = rec rest
 
--- what a sighting says of its row
+-- the row of a sighting
 record IsElsewhere (row : CountRow) (a : CountAnswer) (s : Sighting) : Type 0 where
   place : ℕ
   elsewhere : a ≡ Elsewhere place

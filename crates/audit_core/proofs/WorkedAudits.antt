@@ -51,7 +51,7 @@ two_seen-notes : audit_notes packed false two_seen ≡ codes
     "note: 2001.4.2 was seen at S2 but lies in C1 on record: move it yourself if it was taken out\nmissing: 2001.4.3 at S1-A on record\n"
 two_seen-notes = refl
 
--- a crate is seen where the record has it, and nothing else
+-- a crate is seen where the record has it, and no other thing is seen
 
 abbrev crate_seen : List CountRow
 crate_seen = row (codes "S1") (codes "C1") ∷ []

@@ -1,4 +1,4 @@
--- Defines the moves of an audit, and the move or note for each row, as the laws state them.
+-- Defines when a message is a move of an audit, and when a row is accounted for.
 use Rattle.std.specs.Prelude.{ℕ, ℤ, ◌≡◌, ⊤, Contains, List, None, Some, slice_get}
 use Rattle.posting_core.specs.declared.message.Message.{Message}
 use Rattle.posting_core.specs.declared.message.Message.TheVariants.{Move}

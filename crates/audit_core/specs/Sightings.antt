@@ -1,5 +1,5 @@
--- Defines what a count list found elsewhere, the rows that move nothing, and the container that a
--- thing lies in.
+-- Defines the things that a count list found elsewhere, the rows that move nothing, and the
+-- container of a thing.
 use Rattle.std.specs.Prelude.{ℕ, List, Option, None, Some, option_map, slice_get}
 use Rattle.std.specs.List.{filter_map, zip}
 use Rattle.std.specs.Option.{option_and_then}
@@ -18,7 +18,7 @@ use Rattle.audit_core.specs.declared.unmoved.Unmoved.{Unmoved}
 abbrev pub seen_by : CountRow → List ℕ → Sighting
 seen_by row thing = record { thing = thing; place = row.place }
 
--- What the row saw, if the answer to it is Elsewhere.
+-- The thing and the place of the row, if the answer to it is Elsewhere.
 abbrev pub sighting_of : CountRow → CountAnswer → Option Sighting
 sighting_of row (Elsewhere p) = option_map (seen_by row) row.object
 sighting_of row _ = None
@@ -27,7 +27,7 @@ sighting_of row _ = None
 abbrev pub seen_in : List CountRow → List CountAnswer → List Sighting
 seen_in rows found = filter_map (λ (row, answer). sighting_of row answer) (zip rows found)
 
--- What the list found elsewhere, by the answers of the count's report.
+-- The things that the list found elsewhere, by the answers of the count's report.
 abbrev pub seen_elsewhere : Book → List CountRow → List Sighting
 seen_elsewhere B rows = seen_in rows (answers B rows)
 

@@ -13,7 +13,7 @@
 //! missing: 2001.4.3 at S1-A on record
 //! ```
 //!
-//! [`laws`] has what is true of every audit.
+//! [`laws`] has the laws of every audit.
 #![tactic(auto)]
 
 mod audit_fault;

@@ -1,4 +1,4 @@
-//! The notes on what no line moves.
+//! The notes on the things that no line moves.
 ghost use Rattle.std.specs.Prelude.{◌≡◌, ◌<◌, ◌++◌, All, IfOk, OnOk, flat_map, length};
 ghost use Rattle.std.specs.Prelude.{string_bytes};
 ghost use Rattle.count_core.specs.Counts.{IsMissingIn};

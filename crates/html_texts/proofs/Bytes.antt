@@ -1,4 +1,4 @@
--- What a byte becomes in a page, by cases of the byte.
+-- The text of a byte in a page, by cases of the byte.
 use Rattle.std.proofs.Common.{◌≡◌, ℕ, ◌+◌, ◌%◌, ◌/◌, ◌==◌, Bool, true}
 use Rattle.std.proofs.Common.{false, List, [], ◌∷◌, ◌++◌, cond, zero, suc, refl, ap}
 use Rattle.std.proofs.Common.{◌∙◌, arith, nat_lt}
@@ -12,7 +12,7 @@ use Rattle.html_texts.specs.Escapes.{is_mark}
 use Rattle.html_texts.specs.Pieces.{Piece, marks, own_marks, page_text, piece_text}
 use Rattle.html_texts.specs.Pieces.Piece.{markup, text, number}
 
--- what a byte becomes, by which of the five it is
+-- the text of a byte, by which of the five it is
 abbrev by_kind : Bool → Bool → Bool → Bool → Bool → ℕ → List ℕ
 by_kind a l g q s b = option_map_or (λ (r : ℕ × List ℕ). r.1)
     (cond a (Some (38, codes "&amp;")) (cond l (Some (60, codes "&lt;"))

@@ -1,4 +1,4 @@
--- What a character becomes in a page.
+-- The text of a character in a page.
 use Rattle.std.proofs.Common.{◌≡◌, ℕ, ◌+◌, ◌/◌, ◌==◌, ◌≤◌, Bool, true}
 use Rattle.std.proofs.Common.{false, List, [], ◌∷◌, ◌++◌, cond, refl, ap, sym}
 use Rattle.std.proofs.Common.{◌∙◌, arith}

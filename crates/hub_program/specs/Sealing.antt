@@ -1,5 +1,5 @@
--- Defines what the commands print that seal a record. `o` and `o'` are the bytes that the output
--- holds before and after.
+-- Defines the text that `seal` and `receipt` print. `o` and `o'` are the bytes of the output
+-- before and after.
 use Rattle.std.specs.Prelude.{ℕ, ◌≡◌, ◌++◌, Bool, List, Option}
 use Rattle.std.specs.Io.KnownBytes.{Appends}
 use Rattle.posting_core.specs.Book.{Book}

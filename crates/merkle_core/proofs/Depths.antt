@@ -10,7 +10,7 @@ fits_own_number zero = omega (arith, pow_pos zero)
 fits_own_number (suc n) =
     omega (arith, fits_own_number n, pow_pos n, pow-suc 2 n)
 
--- What fits at a depth fits at greater depths.
+-- A number of leaves that fits at a depth fits at greater depths.
 fits_more : (n d e : ℕ) → n ≤ 2 ^ d → n ≤ 2 ^ (e + d)
 fits_more n d zero fits = rw zero-add fits
 fits_more n d (suc e) fits =

@@ -1,4 +1,4 @@
--- What a head builder holds.
+-- Defines the leaves that a head builder has.
 use Rattle.std.specs.Prelude.{◌≡◌, ℕ, List, length, map}
 use Rattle.merkle_core.specs.Hashes.{leaf_hash}
 use Rattle.merkle_core.specs.Peaks.{ArePeaks}

@@ -1,4 +1,4 @@
--- Defines what reading a receipt's text has to find.
+-- Defines when a receipt is whole, and when two receipts are the same.
 use Rattle.std.specs.Prelude.{ℕ, ◌≡◌, ◌<◌, ◌^◌, All, List, length, string_bytes}
 use Rattle.std.specs.Str.{IsUtf8}
 use Rattle.hex.specs.Hex.{IsBytes}
@@ -18,7 +18,7 @@ pub record IsWhole (receipt : Receipt) : Type 0 where
   pub head : IsHash receipt.head
   pub path : All IsHash receipt.path.items
 
--- The two receipts say the same.
+-- The two receipts are the same.
 pub record IsSame (found receipt : Receipt) : Type 0 where
   pub entry : found.entry ≡ receipt.entry
   pub line : string_bytes found.line ≡ string_bytes receipt.line

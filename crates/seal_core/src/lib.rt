@@ -3,8 +3,8 @@
 //! A [`Seal`] has a number of entries and the head of a Merkle tree over them (RFC 6962). The
 //! leaves are the entries' lines as the report of posted entries prints them. Whoever keeps a seal
 //! can check later that none of these entries was changed, removed or added. A [`Receipt`] has one
-//! entry's line and its audit path. Whoever holds it can check it without the record. [`laws`] has
-//! what a seal or a receipt that holds is worth.
+//! entry's line and its audit path. Whoever holds it can check it without the record. The [`laws`]
+//! state the value of a seal or a receipt that holds.
 //!
 //! ```text
 //! let seal = make_seal(alloc, ledger, None)?;

@@ -24,7 +24,7 @@ pub enum LineFault {
     /// The line does not end with a space, `sha256:` and 64 more bytes.
     #[error("not a number, sha256: and 64 digits")]
     NoMark,
-    /// What is before them is not a number below 2^32 without leading zeros.
+    /// The text before them is not a number below 2^32 without leading zeros.
     #[error("not a number of entries")]
     BadNumber,
     /// The 64 bytes are not hexadecimal digits in lower case.
@@ -54,7 +54,8 @@ pub fn read_seal(line: &[u8]) -> Result<Seal, LineFault>
     Ok(Seal { entries, head })
 }
 
-/// What is before the mark and what is after it. `None` if the mark is not 72 bytes before the end.
+/// The text before the mark and the text after it. `None` if the mark is not 72 bytes before the
+/// end.
 fn parts_of(line: &[u8]) -> Option<(&[u8], &[u8])>
     ensures marked { is_some result ≡ has_mark line.entry.now }
     ensures number { IfSome result (λ parts. parts.0.now ≡ number_part line.entry.now) }

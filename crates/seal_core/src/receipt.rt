@@ -5,9 +5,9 @@ ghost use Rattle.seal_core.specs.Receipts.{ReceiptHolds};
 use merkle_core::root_from_path;
 use posting_core::EntryNo;
 
-/// Evidence that an entry is in a record, for someone who does not see the rest of the record. It
-/// can be checked by itself. It is worth as much as its head: compare that with a seal of `size`
-/// entries that was kept elsewhere.
+/// Evidence that an entry is in a record, for someone who does not see the rest of the record. No
+/// record is needed to check it. It is worth as much as its head: compare that with a seal of
+/// `size` entries that was kept elsewhere.
 #[derive(Debug, Drop)]
 pub struct Receipt {
     /// The number of the entry, from 1.

@@ -1,4 +1,4 @@
--- Defines what the check of a receipt in a file finds and prints.
+-- Defines the result of checking a receipt in a file, and the printed text.
 use Rattle.std.specs.Prelude.{ℕ, ◌≡◌, ◌++◌, ◌↔◌, [], Bool, IsTrue, List, codes}
 use Rattle.std.specs.Prelude.{if◌then◌else◌, string_bytes}
 use Rattle.seal_core.specs.ReceiptReadings.{IsWhole}
@@ -28,7 +28,7 @@ abbrev pub receipt_check_text : Receipt → Bool → List ℕ
 receipt_check_text receipt holds =
     seal_row receipt.entry holds ++ (if holds then shown receipt else [])
 
--- What the check of a file prints and finds: the file has the text of a receipt.
+-- The result of checking a file that has the text of a receipt, and the printed text.
 pub record ChecksReceipt (bytes text : List ℕ) (holds : Bool) : Type 0 where
   pub receipt : Receipt
   pub read : receipt_text receipt ≡ trimmed bytes

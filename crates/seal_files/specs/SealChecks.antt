@@ -1,4 +1,4 @@
--- Defines what the check of a file of seals finds and prints.
+-- Defines the result of checking a file of seals, and the printed text.
 use Rattle.std.specs.Prelude.{ℕ, ◌≡◌, ◌+◌, ◌++◌, ◌↔◌, ◌∷◌, [], Bool, false, true, IsTrue}
 use Rattle.std.specs.Prelude.{List, codes, decimal, flat_map, if◌then◌else◌}
 use Rattle.std.specs.List.{list_all, list_any}
@@ -19,7 +19,7 @@ pub record IsCheckedSeal (B : Book) (line : List ℕ) (entries : ℕ) (holds : B
   pub count : entries ≡ seal.entries
   pub right : IsTrue holds ↔ Holds B seal
 
--- What the line with this number is to the record.
+-- The result of checking the line with this number.
 abbrev pub IsChecked : Book → ℕ → List ℕ → CheckedSeal → Type 0
 IsChecked B row line (checked.Seal entries holds) = IsCheckedSeal B line entries holds
 IsChecked B row line (checked.Bad number fault) = (number ≡ row) × IsFirstFault line fault
@@ -83,7 +83,7 @@ help_on (row ∷ rows) =
     then codes "help: a seal is a line such as 80000 sha256:1029.., with 64 digits in lower case\n"
     else []
 
--- What the check of a file prints and finds.
+-- The result of checking a file, and the printed text.
 pub record Checks (B : Book) (bytes text : List ℕ) (fine : Bool) (help : List ℕ) : Type 0 where
   pub rows : List CheckedSeal
   pub checked : AreChecked B 1 (file_lines bytes) rows

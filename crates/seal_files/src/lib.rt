@@ -1,6 +1,6 @@
 //! Prints seals and receipts, and checks the ones in a file.
 //!
-//! [`seal_line`] and [`receipt_line`] return what a museum gives out. [`check_seals`] compares the
+//! [`seal_line`] and [`receipt_line`] return the lines to give out. [`check_seals`] compares the
 //! seals in a file with the record, a seal on each line. [`check_receipt_file`] checks the receipt
 //! in a file without a record.
 //!

@@ -12,7 +12,7 @@ use posting_core::{EntryNo, Ledger};
 use seal_core::{LineFault, check_seal, read_seal};
 use std::alloc::Global;
 
-/// What a line of a file is to the record.
+/// A line of a file, checked against the record.
 #[derive(Clone, Copy, Debug, PartialEq, Eq)]
 pub enum CheckedSeal {
     /// The seal of so many entries.
@@ -50,7 +50,7 @@ pub fn check_seals(alloc: Global, ledger: &Ledger, bytes: &[u8]) -> Result<Check
     })
 }
 
-/// What each line is to the record, except the empty ones. Fails with `NoMemory`.
+/// Checks each line that is not empty. Fails with `NoMemory`.
 fn check_lines(
     alloc: Global,
     ledger: &Ledger,
@@ -66,7 +66,7 @@ fn check_lines(
     Ok(rows)
 }
 
-/// Adds what a line is to the record, unless it is empty. Fails with `NoMemory`.
+/// Checks a line, and adds the result, unless the line is empty. Fails with `NoMemory`.
 fn add_row(
     alloc: Global,
     ledger: &Ledger,
@@ -83,7 +83,7 @@ fn add_row(
     Ok(())
 }
 
-/// What a line is to the record. Fails with `NoMemory`.
+/// Checks a line. Fails with `NoMemory`.
 fn check_line(
     alloc: Global,
     ledger: &Ledger,
