@@ -199,7 +199,7 @@ pub enum Chosen<'a> {
         upto: Option<&'a str>,
         check: Option<&'a str>,
     },
-    /// Prints the receipt of an entry under the seal of the first `upto` entries, or of all entries.
+    /// Prints the receipt of an entry under the seal of the first `upto` entries, or of all.
     Receipt {
         setup: &'a str,
         store: &'a str,

@@ -7,7 +7,7 @@ pub(crate) const SEAL: Help = Help {
     usage: "pairsalder seal --setup PATH --store PATH [--upto N]\n       pairsalder seal --setup PATH --store PATH --check FILE",
     more: "\
 For evidence that the past was not changed. Print a seal now and then, and keep
-it where nobody can change it: on paper, in the mail, with another museum.
+it where nobody can change it: on paper, in an email, with another museum.
 
 A seal is one line, the number of entries and a SHA-256. It covers each entry's
 line as 'pairsalder posted' prints it. More entries can be posted later: the
@@ -28,8 +28,9 @@ prints
 or, if an entry was changed,
   80000 broken
 
-Exit status: 0 the seal was printed, or all seals hold; 1 a fault, or a seal is
-broken; 2 a usage error, or the record has fewer than N entries.",
+Exit status: 0 the seal was printed, or all seals hold; 1 a fault, a seal is
+broken, a line is not a seal, or FILE has no seal; 2 a usage error, or the
+record has fewer than N entries.",
 };
 
 pub(crate) const RECEIPT: Help = Help {
@@ -37,7 +38,7 @@ pub(crate) const RECEIPT: Help = Help {
     usage: "pairsalder receipt --setup PATH --store PATH [--upto N] ENTRY\n       pairsalder receipt --check FILE",
     more: "\
 For somebody outside the museum, such as a lender who wants evidence that the
-return of an object is on record. The receipt shows this one entry.
+exit of their object is on record. The receipt shows this one entry.
 
 Prints the entry's receipt, one line of JSON. With --check, checks the receipt
 in FILE without a setup or a store. Prints whether it holds, and if it does, the
@@ -51,7 +52,7 @@ and at the lender's
 prints
   12 holds
   seal 80000 sha256:1029ab..
-  entry 12 GAL 4 Applied {\"day\":\"2024-06-01\",\"kind\":\"return\",..}
+  entry 12 GAL 4 Applied {\"day\":\"2024-06-01\",\"kind\":\"exit\",..}
 
 Exit status: 0 the receipt was printed, or holds; 1 a fault, or the receipt is
 broken; 2 a usage error, or ENTRY is not one of the first N entries.",

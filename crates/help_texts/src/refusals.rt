@@ -13,8 +13,9 @@ pub(crate) const REFUSALS: &[Meaning] = &[
     },
     Meaning {
         word: "BadNumber",
-        means: "a number is 0, too large, or has a leading 0",
-        cause: "a station's n of 0 or above 999999, or a code such as C01 or 2001.04.",
+        means: "a number is out of range, or is not written as it must be",
+        cause: "a station's n of 0 or above 999999, a code such as C01 or 2001.04, or a\n\
+            seal whose number is above 4294967295 or has a sign or a leading 0.",
         action: "write 1 to 999999, without a leading 0. For a seal, copy the line again.",
     },
     Meaning {
