@@ -1,8 +1,12 @@
-use Rattle.std.proofs.Common.{ap, string_bytes, ◌∙◌, ◌++◌}
+use Rattle.std.proofs.Common.{arith, ap, string_bytes, ◌∙◌, ◌++◌}
 use Rattle.std.specs.List.{flat_map}
+use Rattle.std.proofs.lemmas.Grind.{common_steps}
 use Rattle.visible_text.specs.VisibleText.{line_char}
 use Rattle.visible_text.proofs.Characters.{all_yielded}
 use Rattle.visible_text.proofs.visible.add_on_one_line.Goals as goal
+
+pub loop-c-preserved : goal.loop-c-preserved
+loop-c-preserved c = grind (arith, common_steps)
 
 pub returns : goal.returns
 returns c =

@@ -1,9 +1,13 @@
-use Rattle.std.proofs.Common.{subst}
+use Rattle.std.proofs.Common.{arith, subst}
 use Rattle.std.specs.Io.KnownBytes.{Appends}
 use Rattle.std.specs.List.{flat_map}
+use Rattle.std.proofs.lemmas.Grind.{common_steps}
 use Rattle.visible_text.specs.VisibleText.{line_char}
 use Rattle.visible_text.proofs.Characters.{all_yielded}
 use Rattle.visible_text.proofs.written.write_on_one_line.Goals as goal
+
+pub loop-c-preserved : goal.loop-c-preserved
+loop-c-preserved g c = grind (arith, common_steps)
 
 pub returns : goal.returns
 returns g c =

@@ -1,6 +1,8 @@
+use Rattle.std.proofs.Common.{arith}
 use Rattle.std.proofs.Common.{◌≡◌, ◌∙◌, ◌++◌, [], List, Option, ap, sym, subst, refl, append-nil}
 use Rattle.std.specs.Prelude.{map, reverse}
 use Rattle.std.specs.Option.{option_to_list}
+use Rattle.std.proofs.lemmas.Grind.{common_steps}
 use Rattle.nest_core.specs.Museum.{Museum}
 use Rattle.posting_core.specs.declared.entry.Entry.{Entry}
 use Rattle.posting_core.specs.Lawful.{IsLawful}
@@ -10,6 +12,9 @@ use Rattle.hub_core.specs.StandsFor.{InStep}
 use Rattle.hub_core.proofs.OpenLemmas.{fresh_step, entry_fault}
 use Rattle.hub_core.proofs.Written.{if_err}
 use Rattle.hub_core.proofs.hub.reposting.judged.Goals as goal
+
+pub loop-entry-preserved : goal.loop-entry-preserved
+loop-entry-preserved c = grind (arith, common_steps)
 
 pub loop-entry-init : goal.loop-entry-init
 loop-entry-init c =

@@ -1,6 +1,10 @@
 use Rattle.std.proofs.Common.{arith, rules, List, ℕ, [], Bor, length, ◌<◌}
 use Rattle.std.proofs.lemmas.List.Folds.{length-flat_map-take}
+use Rattle.std.proofs.lemmas.Grind.{common_steps}
 use Rattle.hub_core.proofs.line.wording.add.Goals as goal
+
+pub loop-piece-preserved : goal.loop-piece-preserved
+loop-piece-preserved c = grind (arith, common_steps)
 
 pub returns-in_err-push_str : goal.returns-in_err-push_str
 returns-in_err-push_str c = record {

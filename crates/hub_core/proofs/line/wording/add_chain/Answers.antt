@@ -1,8 +1,12 @@
 use Rattle.std.proofs.Common.{arith, rules, ℕ, [], length, ◌<◌, true≢false, ap, sym, length-append}
 use Rattle.std.proofs.lemmas.List.Folds.{length-flat_map-take}
+use Rattle.std.proofs.lemmas.Grind.{common_steps}
 use Rattle.hub_core.specs.LineText.{container_text}
 use Rattle.hub_core.proofs.RoomLemmas.{chain_length, container_length}
 use Rattle.hub_core.proofs.line.wording.add_chain.Goals as goal
+
+pub loop-container-preserved : goal.loop-container-preserved
+loop-container-preserved c = grind (arith, common_steps)
 
 pub returns-in_err-add : goal.returns-in_err-add
 returns-in_err-add c = record {

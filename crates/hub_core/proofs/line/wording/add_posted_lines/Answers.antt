@@ -2,11 +2,15 @@ use Rattle.std.proofs.Common.{◌∙◌, ◌++◌, ◌+◌, ◌≤◌, List, ℕ
 use Rattle.std.proofs.Common.{length-append, true≢false, string_bytes, string_len, string_capacity}
 use Rattle.std.proofs.Common.{rules, arith}
 use Rattle.std.specs.Prelude.{reverse}
+use Rattle.std.proofs.lemmas.Grind.{common_steps}
 use Rattle.posting_core.specs.VerdictNames.{verdict_name}
 use Rattle.hub_core.specs.Replies.{posted_line}
 use Rattle.hub_core.specs.LineText.{posted_lines}
 use Rattle.hub_core.proofs.PostedLemmas.{posted_start, posted_within}
 use Rattle.hub_core.proofs.line.wording.add_posted_lines.Goals as goal
+
+pub loop-i-preserved : goal.loop-i-preserved
+loop-i-preserved c = grind (arith, common_steps)
 
 pub loop-i-init : goal.loop-i-init
 loop-i-init c = record {

@@ -1,0 +1,6 @@
+use Rattle.std.proofs.Common.{arith}
+use Rattle.std.proofs.lemmas.Grind.{common_steps}
+use Rattle.register_sql.proofs.agree.lines_in.Goals as goal
+
+pub rows-preserved : goal.rows-preserved
+rows-preserved c = grind (arith, common_steps)

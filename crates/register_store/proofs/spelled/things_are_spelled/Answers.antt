@@ -1,0 +1,6 @@
+use Rattle.std.proofs.Common.{arith}
+use Rattle.std.proofs.lemmas.Grind.{common_steps}
+use Rattle.register_store.proofs.spelled.things_are_spelled.Goals as goal
+
+pub loop-thing-preserved : goal.loop-thing-preserved
+loop-thing-preserved c = grind (arith, common_steps)
