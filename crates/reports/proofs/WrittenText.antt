@@ -1,4 +1,4 @@
--- The text that was written so far.
+-- What is written of a text before and after a fault.
 use Rattle.std.proofs.Common.{◌≡◌, ℕ, ◌+◌, ◌-◌, ◌≤◌, List, ◌++◌, [], ◌∷◌, length, take, drop}
 use Rattle.std.proofs.Common.{Option, None, Some, Result, Ok, Err, arith, ap, ◌∙◌, sym, subst, refl}
 use Rattle.std.proofs.Common.{zero, suc, add-one}
@@ -30,7 +30,7 @@ rest_bound text m n within few =
     let d = length-drop m text in
     omega (arith, e, d, few, within)
 
--- n more bytes of the text are written
+-- After m bytes of the text, n more are written.
 pub more_taken : (a b c : Option (List ℕ)) (text : List ℕ) (m n : ℕ) → Appends a b (take m text)
     → Appends b c (take n (take (length text - m) (drop m text))) → Appends a c (take (m + n) text)
 more_taken a b c text m n p q =
@@ -39,17 +39,18 @@ more_taken a b c text m n p q =
     subst (Appends a c) (sym (take-add m n text))
     (Appends-trans a b c (take m text) (take n (drop m text)) p r)
 
--- that front is a front of the longer text
+-- A prefix of s is a prefix of s ++ t.
 front_of : (k : ℕ) (s t : List ℕ) → (j : ℕ) × (take j (s ++ t) ≡ take k s)
 front_of zero s t = (zero, refl)
 front_of (suc k) [] t = (zero, refl)
 front_of (suc k) (x ∷ s) t = let r = front_of k s t in (suc r.0, ap (λ l. x ∷ l) r.1)
 
+-- Text s with a prefix of t is a prefix of s ++ t.
 past_of : (k : ℕ) (s t : List ℕ) → (j : ℕ) × (take j (s ++ t) ≡ s ++ take k t)
 past_of k [] t = (k, refl)
 past_of k (x ∷ s) t = let r = past_of k s t in (suc r.0, ap (λ l. x ∷ l) r.1)
 
--- a text that ends a line after one that does
+-- If two texts end with a line feed or are empty, so does the first with the second after it.
 pub ends_line-append : (s t : List ℕ) → IsTrue (ends_line s) → IsTrue (ends_line t)
     → IsTrue (ends_line (s ++ t))
 ends_line-append [] t p q = q
@@ -57,14 +58,14 @@ ends_line-append (b ∷ []) [] p q = p
 ends_line-append (b ∷ []) (c ∷ t) p q = q
 ends_line-append (b ∷ c ∷ s) t p q = ends_line-append (c ∷ s) t p q
 
--- lines that each end one
+-- The same for the texts of a list.
 pub lines_end : {X : Type 0} (text : X → List ℕ) → ((x : X) → IsTrue (ends_line (text x)))
     → (xs : List X) → IsTrue (ends_line (flat_map text xs))
 lines_end text ends [] = refl
 lines_end text ends (x ∷ xs) =
     ends_line-append (text x) (flat_map text xs) (ends x) (lines_end text ends xs)
 
--- after whole lines every fault can come
+-- Both faults can come after whole lines.
 can_end-lines : (fault : PrintFault) (s : List ℕ) → IsTrue (ends_line s) → IsTrue (can_end fault s)
 can_end-lines NoMemory s p = p
 can_end-lines WriteFailed s p = refl
@@ -74,7 +75,7 @@ can_end-append : (fault : PrintFault) (s t : List ℕ) → IsTrue (ends_line s)
 can_end-append NoMemory s t p q = ends_line-append s t p q
 can_end-append WriteFailed s t p q = refl
 
--- what was written of a text is also a front of a longer text
+-- If a prefix of s is written, it is also a prefix of s ++ t.
 pub stops_longer : (a b : Option (List ℕ)) (fault : PrintFault) (s t : List ℕ) → Stops a b fault s
     → Stops a b fault (s ++ t)
 stops_longer a b fault s t p =
@@ -84,7 +85,7 @@ stops_longer a b fault s t p =
       subst (Appends a b) (sym r.1) p.2,
     )
 
--- the fault came after whole lines
+-- The fault comes after s, which consists of whole lines.
 pub stops_after : (a b : Option (List ℕ)) (fault : PrintFault) (s t : List ℕ)
     → IsTrue (ends_line s) → Appends a b s → Stops a b fault (s ++ t)
 stops_after a b fault s t ends p =
@@ -95,7 +96,7 @@ stops_after a b fault s t ends p =
       subst (Appends a b) (sym all) p,
     )
 
--- the fault came in a text after whole lines
+-- The fault comes in t, after s, which consists of whole lines.
 pub stops_within : (a b c : Option (List ℕ)) (fault : PrintFault) (s t : List ℕ)
     → IsTrue (ends_line s) → Appends a b s → Stops b c fault t → Stops a c fault (s ++ t)
 stops_within a b c fault s t ends p q =
@@ -106,7 +107,7 @@ stops_within a b c fault s t ends p q =
       subst (Appends a c) (sym r.1) (Appends-trans a b c s (take q.0 t) p q.2),
     )
 
--- one more row
+-- The rows through row i are the rows before it, and row i.
 pub row_taken : {X : Type 0} (rows : List X) (i : ℕ) → take (suc i) rows ≡ take i rows
     ++ option_to_list (slice_get rows i)
 row_taken [] zero = refl
@@ -114,7 +115,7 @@ row_taken [] (suc i) = refl
 row_taken (row ∷ rows) zero = refl
 row_taken (row ∷ rows) (suc i) = ap (λ l. row ∷ l) (row_taken rows i)
 
--- the text of the rows through row i
+-- The same for the texts of the rows.
 pub lines_more : {X Y : Type 0} (text : X → List Y) (rows : List X) (i : ℕ)
     → flat_map text (take (i + 1) rows) ≡ flat_map text (take i rows)
     ++ flat_map text (option_to_list (slice_get rows i))
@@ -123,7 +124,7 @@ lines_more text rows i =
     ∙ (ap (flat_map text) (row_taken rows i)
     ∙ flat_map-append text (take i rows) (option_to_list (slice_get rows i)))
 
--- the fault came at row i
+-- The fault comes at row i.
 pub stops_at : {X : Type 0} (a b c : Option (List ℕ)) (fault : PrintFault) (text : X → List ℕ)
     → ((x : X) → IsTrue (ends_line (text x))) → (rows : List X) (i : ℕ)
     → Appends a b (flat_map text (take i rows))
@@ -142,13 +143,13 @@ stops_at a b c fault text ends rows i p q =
     (stops_within a b c fault (flat_map text (take i rows))
     (flat_map text (option_to_list (slice_get rows i))) (lines_end text ends (take i rows)) p q))
 
--- a call that failed left a front of its text
+-- A call that fails has written a prefix of its text.
 pub prints_err : (a b : Option (List ℕ)) (r : Result Unit PrintFault) (text : List ℕ)
     (x : PrintFault) → IsErrAnd r (λ y. y ≡ x) → Stops a b x text → Prints a b r text
 prints_err a b (Ok u) text x is p = absurd is
 prints_err a b (Err y) text x is p = subst (λ fault. Stops a b fault text) (sym is) p
 
--- one text after whole lines
+-- Text t is printed after s, which consists of whole lines.
 pub prints_after : (a b c : Option (List ℕ)) (r : Result Unit PrintFault) (s t : List ℕ)
     → IsTrue (ends_line s) → Appends a b s → Prints b c r t → Prints a c r (s ++ t)
 prints_after a b c (Ok u) s t ends p q = Appends-trans a b c s t p q

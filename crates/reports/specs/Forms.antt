@@ -63,12 +63,12 @@ abbrev pub can_end : PrintFault → List ℕ → Bool
 can_end NoMemory written = ends_line written
 can_end WriteFailed written = true
 
--- A front of the text is written, as it can be at this fault.
+-- A prefix of the text is written, and whole lines of it if memory ran out.
 abbrev pub Stops : Option (List ℕ) → Option (List ℕ) → PrintFault → List ℕ → Type 0
 Stops old new fault text =
     (k : ℕ) × IsTrue (can_end fault (take k text)) × Appends old new (take k text)
 
--- The writer got the whole text, or after a fault a front of it: whole lines after NoMemory.
+-- The whole text is written, or after a fault a prefix of it.
 abbrev pub Prints : Option (List ℕ) → Option (List ℕ) → Result Unit PrintFault → List ℕ → Type 0
 Prints old new result text =
     MatchResult result (λ _. Appends old new text) (λ fault. Stops old new fault text)

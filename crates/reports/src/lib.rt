@@ -4,7 +4,7 @@
 //! number on. [`print`] writes the answer in a [`Form`]. A [`PrintFault`] says why it stopped.
 //!
 //! The contract of [`print`] promises each byte: what is written is the text that `specs/Reports`
-//! defines for the ledger, the question and the form, and after a fault a front of it, which ends
+//! defines for the ledger, the question and the form, and after a fault a prefix of it, which ends
 //! with a whole line if memory ran out. The rows are made one at a time, as they are printed. For a
 //! table they are made once more before, to find how wide its columns are.
 //!
@@ -37,3 +37,4 @@ pub use printing::{print, print_as_of};
 pub use question::{EntryFilter, LoanFilter, Question, names_of};
 pub use reports::loan::partner_of;
 pub use sentences::{cause_text, where_text};
+pub use writing::write_text;

@@ -32,7 +32,7 @@ use std::thread::Threads;
 /// Prints the answer to a question about the record in this ledger. `threads` runs the workers that
 /// check a count list.
 ///
-/// Fails with `NoMemory`, after whole lines of the report, or with `WriteFailed`, after a front of
+/// Fails with `NoMemory`, after whole lines of the report, or with `WriteFailed`, after a prefix of
 /// it. It takes memory for one row at a time, a number for each thing, loan or row of a count list
 /// that the report lists, and for a table the width of each column. A long history also takes a
 /// number for each container above a location, and a second ledger.

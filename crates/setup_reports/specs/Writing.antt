@@ -4,7 +4,7 @@ use Rattle.std.specs.Io.KnownBytes.{Appends}
 use Rattle.setup_reports.specs.declared.fault.PrintFault.{PrintFault}
 use Rattle.setup_reports.specs.declared.fault.PrintFault.TheVariants.{NoMemory, WriteFailed}
 
--- Nothing is written if memory ran out, and a front of the text if the writer failed.
+-- Nothing is written if memory ran out, and a prefix of the text if the writer failed.
 abbrev pub Stops : Option (List ℕ) → Option (List ℕ) → List ℕ → PrintFault → Type 0
 Stops old new text NoMemory = Appends old new []
 Stops old new text WriteFailed = (k : ℕ) × Appends old new (take k text)

@@ -20,8 +20,8 @@ use std::io::Write;
 /// entries: a line for each new station, place and thing, a line for each thing with another normal
 /// location, and a last line with the counts. Prints `nothing to add` if there is no change.
 ///
-/// Fails with `NoMemory`, and then nothing is written, or with `WriteFailed`, after a front of the
-/// text. It takes memory for the whole text.
+/// Fails with `NoMemory`, and then nothing is written, or with `WriteFailed`, after a
+/// prefix of the text. It takes memory for the whole text.
 pub fn print_growth<W: Write>(
     alloc: Global,
     before: &Setup,

@@ -22,8 +22,8 @@ use std::io::Write;
 /// lacked and `before` doesn't. The entries are those of the record, oldest first. An agreement is
 /// printed once all its objects are listed.
 ///
-/// Fails with `NoMemory`, and then nothing is written, or with `WriteFailed`, after a front of the
-/// text. It takes memory for the whole text.
+/// Fails with `NoMemory`, and then nothing is written, or with `WriteFailed`, after a
+/// prefix of the text. It takes memory for the whole text.
 pub fn print_now_known<W: Write>(
     alloc: Global,
     before: &Setup,

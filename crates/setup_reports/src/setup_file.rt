@@ -12,8 +12,8 @@ use std::io::Write;
 /// Prints a setup as a setup file: a row for each station, place and thing, in the order of their
 /// numbers. Rows that say how the setup grew are left out.
 ///
-/// Fails with `NoMemory`, and then nothing is written, or with `WriteFailed`, after a front of the
-/// file. It takes memory for the whole file.
+/// Fails with `NoMemory`, and then nothing is written, or with `WriteFailed`, after a
+/// prefix of the file. It takes memory for the whole file.
 pub fn print_setup<W: Write>(alloc: Global, setup: &Setup, output: &mut W) -> Result<(), PrintFault>
     ensures { Prints (W.contents output.old) (W.contents output.new) result
         (setup_file setup.now) }

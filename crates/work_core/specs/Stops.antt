@@ -51,7 +51,7 @@ pub record StopsReplay {R : Type 0} (holding : R → Holding) (hub : State R) (r
   pub left : (O : List Entry) (A : List Arrival) → StandsFor holding hub O A
       → LeavesLines holding hub ended O A i i' o o' fault
 
--- A report stopped: a front of its text is written, and whole lines of it if memory ran out.
+-- A report stopped: a prefix of its text is written, and whole lines of it if memory ran out.
 abbrev pub StopsReport : Option (List ℕ) → Option (List ℕ) → List ℕ → WorkFault → Type 0
 StopsReport o o' text fault =
     (cause : PrintFault) × (fault ≡ of_printing cause) × forms.Stops o o' cause text
