@@ -3,6 +3,7 @@ use Rattle.std.specs.Prelude.{◌≡◌, IsTrue, [], ◌∷◌, codes, refl}
 use Rattle.html_texts.specs.Escapes.{escaped, has_whole_references}
 use Rattle.html_texts.specs.Pieces.{marks, page_text}
 use Rattle.html_texts.specs.Pieces.Piece.{markup, text}
+use Rattle.html_texts.specs.Tables.{table_row}
 
 script : escaped (codes "<script>alert('x & y')</script>")
     ≡ codes "&lt;script&gt;alert(&#39;x &amp; y&#39;)&lt;/script&gt;"
@@ -24,3 +25,7 @@ cell = refl
 
 cell_marks : marks (codes "<td>a&lt;b</td>") ≡ codes "<><>"
 cell_marks = refl
+
+row : page_text (table_row (codes "a<b" ∷ codes "" ∷ codes "12" ∷ []))
+    ≡ codes "<tr><td>a&lt;b</td><td></td><td>12</td></tr>\n"
+row = refl

@@ -1,5 +1,6 @@
 -- How many pass a test, as a loop goes through them.
-use Rattle.std.proofs.Common.{◌≡◌, ◌∙◌, ℕ, ◌+◌, ◌++◌, ◌∷◌, ◌<◌, [], Bool, List, ap, arith, cond}
+use Rattle.std.proofs.Common.{◌≡◌, ◌∙◌, ℕ, ◌+◌, ◌++◌, ◌∷◌, ◌<◌, []}
+use Rattle.std.proofs.Common.{Bool, List, ap, arith, cond}
 use Rattle.std.proofs.Common.{false, filter, get_or, length, length-append, take, true}
 use Rattle.std.specs.List.{range_with_len}
 use Rattle.std.proofs.lemmas.List.Elements.{filter_more as taken_more}
@@ -15,7 +16,8 @@ pub count_more : (p : ℕ → Bool) (n : ℕ) (b : Bool) → p n ≡ b
     → length (filter p (range_with_len 0 (n + 1)))
     ≡ length (filter p (range_with_len 0 n)) + cond b 1 0
 count_more p n b e =
-    ap length (filter_more p n ∙ ap (λ c. filter p (range_with_len 0 n) ++ cond c (n ∷ []) []) e)
+    ap length (filter_more p n
+    ∙ ap (λ c. filter p (range_with_len 0 n) ++ cond c (n ∷ []) []) e)
     ∙ with_one (filter p (range_with_len 0 n)) n b
 
 -- of the first elements, and the next one

@@ -1,5 +1,6 @@
 -- Lists that a loop goes through, one element at a time.
-use Rattle.std.proofs.Common.{◌≡◌, ◌∙◌, ℕ, ◌+◌, ◌++◌, ◌∷◌, ◌≤◌, ◌<◌, [], All, Bool, List, ap, sym}
+use Rattle.std.proofs.Common.{◌≡◌, ◌∙◌, ℕ, ◌+◌, ◌++◌, ◌∷◌, ◌≤◌}
+use Rattle.std.proofs.Common.{◌<◌, [], All, Bool, List, ap, sym}
 use Rattle.std.proofs.Common.{arith, filter}
 use Rattle.std.specs.List.{flat_map, range_with_len}
 use Rattle.std.proofs.lemmas.Grind.{flat_map-append}

@@ -1,6 +1,12 @@
+pub mod Away
+pub mod Entries
 pub mod Listed
+pub mod Loans
 pub mod Numbers
 pub mod Pages
+pub mod Stations
+pub mod Terms
 pub mod Tree
 pub mod TreeRows
+pub mod Values
 pub mod Writes

@@ -1,12 +1,18 @@
 -- Defines the page of a record.
-use Rattle.std.specs.Prelude.{ℕ, ◌∷◌, ◌++◌, [], List}
+use Rattle.std.specs.Prelude.{ℕ, ℤ, ◌∷◌, ◌++◌, [], List, Option}
 use Rattle.std.specs.List.{flat_map}
 use Rattle.posting_core.specs.Book.{Book}
 use Rattle.html_texts.specs.Pieces.{Piece}
 use Rattle.html_texts.specs.Pieces.Piece.{markup}
-use Rattle.page_core.specs.declared.frame.TheConstants.{HEAD, NUMBERS_END, TREE, TREE_END}
+use Rattle.page_core.specs.declared.frame.TheConstants.{AWAY, ENTRIES, HEAD, LOANS, NUMBERS_END}
+use Rattle.page_core.specs.declared.frame.TheConstants.{PAGE_END, STATIONS, TABLE_END, TREE}
+use Rattle.page_core.specs.declared.frame.TheConstants.{TREE_END, UNPLACED}
+use Rattle.page_core.specs.Away.{away_rows}
+use Rattle.page_core.specs.Entries.{entry_rows}
+use Rattle.page_core.specs.Loans.{loan_rows}
 use Rattle.page_core.specs.Numbers.{numbers_row}
-use Rattle.page_core.specs.TreeRows.{tree_rows}
+use Rattle.page_core.specs.Stations.{station_rows}
+use Rattle.page_core.specs.TreeRows.{tree_rows, unplaced_rows}
 
 -- A section: the markup before its rows, its rows, and the markup after them.
 abbrev pub section : List ℕ → List (List Piece) → List ℕ → List Piece
@@ -21,6 +27,28 @@ numbers B = section HEAD.now (numbers_row B ∷ []) NUMBERS_END.now
 abbrev pub tree : Book → List Piece
 tree B = section TREE.now (tree_rows B) TREE_END.now
 
--- The page: its head with the museum in numbers, and where everything is.
-abbrev pub page : Book → List Piece
-page B = numbers B ++ tree B
+-- The things that were never placed.
+abbrev pub unplaced : Book → List Piece
+unplaced B = section UNPLACED.now (unplaced_rows B) TREE_END.now
+
+-- The loans. Those that are overdue on the day are marked, if one is given.
+abbrev pub loans : Book → Option ℤ → List Piece
+loans B on = section LOANS.now (loan_rows B on) TABLE_END.now
+
+-- The objects that are away from their normal locations.
+abbrev pub away : Book → List Piece
+away B = section AWAY.now (away_rows B) TABLE_END.now
+
+-- The stations, each with its next number.
+abbrev pub stations : Book → List Piece
+stations B = section STATIONS.now (station_rows B) TABLE_END.now
+
+-- The last entries.
+abbrev pub entries : Book → List Piece
+entries B = section ENTRIES.now (entry_rows B) TABLE_END.now
+
+-- The page: its sections, and its end.
+abbrev pub page : Book → Option ℤ → List Piece
+page B on =
+    numbers B ++ (tree B ++ (unplaced B ++ (loans B on ++ (away B
+    ++ (stations B ++ (entries B ++ markup PAGE_END.now ∷ []))))))

@@ -1,5 +1,6 @@
 -- Defines the rows of the tree: the pieces of each of its lines.
-use Rattle.std.specs.Prelude.{ℕ, ◌∷◌, [], ◌<◌, ◌&&◌, Bool, List, Some, codes, filter, length, map}
+use Rattle.std.specs.Prelude.{ℕ, ◌∷◌, [], ◌<◌, ◌&&◌, Bool, List, None, Some, codes}
+use Rattle.std.specs.Prelude.{filter, length, map}
 use Rattle.std.specs.Prelude.{if◌then◌else◌, not}
 use Rattle.nest_core.specs.Museum.{Museum, is_container}
 use Rattle.nest_core.specs.Nest.{is_same_place}
@@ -11,7 +12,7 @@ use Rattle.html_texts.specs.Pieces.Piece.{markup, number, text}
 use Rattle.page_core.specs.declared.lines.Line.{Line}
 use Rattle.page_core.specs.declared.lines.Line.TheVariants.{PlaceBegin, PlaceEnd, ThingBegin}
 use Rattle.page_core.specs.declared.lines.Line.TheVariants.{ThingEnd}
-use Rattle.page_core.specs.Tree.{things_of, tree_lines}
+use Rattle.page_core.specs.Tree.{lines_at, things_of, tree_lines}
 
 -- The number of a line's place or thing, and what it is below in this setup.
 
@@ -86,3 +87,7 @@ line_text B line = page_text (line_row B line)
 -- The rows of all lines.
 abbrev pub tree_rows : Book → List (List Piece)
 tree_rows B = map (line_row B) (tree_lines B)
+
+-- The rows of the things that were never placed.
+abbrev pub unplaced_rows : Book → List (List Piece)
+unplaced_rows B = map (line_row B) (lines_at B None)

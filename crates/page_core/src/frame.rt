@@ -10,15 +10,29 @@ pub(crate) const HEAD: &str = "<!doctype html>\n\
 <style>\n\
 body { font: 1rem/1.5 system-ui, sans-serif; max-width: 60rem; margin: auto; padding: 1rem; }\n\
 h1 { font-size: 1.5rem; }\n\
+h2 { font-size: 1.2rem; margin: 2rem 0 0.5rem; }\n\
 dl { display: flex; flex-wrap: wrap; gap: 0.25rem 2rem; margin: 0 0 1rem; }\n\
 dt { color: #555; font-size: 0.85rem; }\n\
 dd { margin: 0; font-size: 1.4rem; font-weight: 600; }\n\
 input { font: inherit; width: 100%; box-sizing: border-box; padding: 0.4rem 0.6rem; }\n\
 ul { list-style: none; margin: 0; padding-left: 1.1rem; border-left: 1px solid #ddd; }\n\
 ul.tree { padding: 0; border: 0; }\n\
+ul.tree:empty::before { content: \"None\"; }\n\
 summary { cursor: pointer; padding: 0.15rem 0; font-weight: 600; }\n\
 small { color: #555; font-weight: 400; }\n\
-@media print { body { max-width: none; font-size: 9pt; } input { display: none; } }\n\
+.wide { overflow-x: auto; }\n\
+table { border-collapse: collapse; }\n\
+th, td { padding: 0.2rem 1rem 0.2rem 0; text-align: left; white-space: nowrap; }\n\
+th { color: #555; font-size: 0.85rem; font-weight: 400; }\n\
+td { border-top: 1px solid #ddd; }\n\
+.loans td:last-child { font-weight: 600; }\n\
+@media print {\n\
+body { max-width: none; font-size: 9pt; }\n\
+input { display: none; }\n\
+.wide { overflow: visible; }\n\
+th, td { white-space: normal; }\n\
+tr { break-inside: avoid; }\n\
+}\n\
 </style>\n\
 </head>\n\
 <body>\n\
@@ -32,11 +46,48 @@ pub(crate) const NUMBERS_END: &str = "</dl>\n";
 pub(crate) const TREE: &str = "<p><input id=\"find\" type=\"search\" \
 placeholder=\"Find a place, an object or a container\" \
 aria-label=\"Find a place, an object or a container\" hidden></p>\n\
-<ul class=\"tree\">\n";
+<ul class=\"tree\">";
 
-/// After it: the script, and the end of the page.
-pub(crate) const TREE_END: &str = "</ul>\n\
-<script>\n\
+/// Before the things that were never placed.
+pub(crate) const UNPLACED: &str = "<h2>Not placed</h2>\n<ul class=\"tree\">";
+
+/// After the rows of a tree.
+pub(crate) const TREE_END: &str = "</ul>\n";
+
+/// Before the loans.
+pub(crate) const LOANS: &str = "<h2>Loans in and loans out</h2>\n\
+<div class=\"wide\"><table class=\"loans\">\n\
+<thead><tr><th scope=\"col\">Loan</th><th scope=\"col\">State</th>\
+<th scope=\"col\">Partner</th><th scope=\"col\">First day</th><th scope=\"col\">Last day</th>\
+<th scope=\"col\">Objects</th><th scope=\"col\">Not yet returned</th>\
+<th scope=\"col\">Overdue</th></tr></thead>\n\
+<tbody>\n";
+
+/// Before the objects that are away from their normal locations.
+pub(crate) const AWAY: &str = "<h2>Away from the normal location</h2>\n\
+<div class=\"wide\"><table>\n\
+<thead><tr><th scope=\"col\">Object number</th><th scope=\"col\">Current location</th>\
+<th scope=\"col\">Normal location</th></tr></thead>\n\
+<tbody>\n";
+
+/// Before the stations.
+pub(crate) const STATIONS: &str = "<h2>Stations</h2>\n\
+<div class=\"wide\"><table>\n\
+<thead><tr><th scope=\"col\">Station</th><th scope=\"col\">Next number</th></tr></thead>\n\
+<tbody>\n";
+
+/// Before the last entries.
+pub(crate) const ENTRIES: &str = "<h2>Last entries</h2>\n\
+<div class=\"wide\"><table>\n\
+<thead><tr><th scope=\"col\">Entry</th><th scope=\"col\">Station</th>\
+<th scope=\"col\">Number</th><th scope=\"col\">Verdict</th></tr></thead>\n\
+<tbody>\n";
+
+/// After the rows of a table.
+pub(crate) const TABLE_END: &str = "</tbody></table></div>\n";
+
+/// The script, and the end of the page.
+pub(crate) const PAGE_END: &str = "<script>\n\
 var box = document.getElementById('find');\n\
 var rows = Array.from(document.querySelectorAll('.tree li'));\n\
 var names = rows.map(function (row) {\n\

@@ -1,26 +1,36 @@
 //! A record as one page of HTML: a file to look at, to search and to print.
 //!
-//! [`write_page`] writes the page. Its contract promises each byte: what is written is the text of
-//! the pieces that `specs/Pages` defines for the ledger, and after a fault a front of it. The rows
-//! of a section are made one at a time, as they are written: the page is never in memory.
+//! [`write_page`] writes the page. Its contract promises each byte: it writes the text of the pieces
+//! that `specs/Pages` defines for the ledger, and after a fault only the beginning of that text. The
+//! rows of a section are made one at a time, as they are written. The page is never in memory.
+//! [`write_page_as_of`] does the same for the record as it was after an earlier entry.
 //!
 //! ```text
-//! write_page(alloc, hub.ledger(), &mut out)?;
+//! write_page(alloc, hub.ledger(), Some(today), &mut out)?;
 //! ```
 //!
-//! [`laws`] has what the page is worth: each thing stands once in the tree, at the place where the
-//! record has it.
+//! The tables have the values that the reports of the crate `reports` print. [`laws`] proves two
+//! facts about every page: it lists each thing once, at its current location, and no code or name
+//! can add a tag to it.
 #![tactic(auto)]
 
+mod away;
 mod counts;
+mod entries;
 mod frame;
 pub mod laws;
 mod lines;
+mod loans;
 mod numbers;
 mod page;
+mod past_page;
 mod rows;
 mod selection;
+mod stations;
+mod terms;
 mod tree;
+mod values;
 mod writing;
 
 pub use page::write_page;
+pub use past_page::write_page_as_of;

@@ -1,28 +1,51 @@
 //! Writes a page.
 ghost use Rattle.std.specs.Prelude.{◌≡◌};
 ghost use Rattle.html_texts.specs.Pieces.{page_text};
-ghost use Rattle.page_core.specs.Pages.{numbers, page, tree};
+ghost use Rattle.page_core.specs.Pages.{away, entries, loans, numbers, page, stations, tree};
+ghost use Rattle.page_core.specs.Pages.{unplaced};
 ghost use Rattle.page_core.specs.Writes.{Writes};
 
-use crate::frame::{HEAD, NUMBERS_END, TREE, TREE_END};
+use crate::away::Away;
+use crate::entries::LastEntries;
+use crate::frame::{
+    AWAY, ENTRIES, HEAD, LOANS, NUMBERS_END, PAGE_END, STATIONS, TABLE_END, TREE, TREE_END,
+    UNPLACED,
+};
+use crate::loans::Loans;
 use crate::numbers::Numbers;
 use crate::rows::write_section;
+use crate::stations::Stations;
 use crate::tree::Tree;
+use crate::writing::write_text;
+use codes_core::Day;
 use posting_core::Ledger;
 use reports::PrintFault;
 use std::alloc::Global;
 use std::io::Write;
 
-/// Writes the page of a record: one file of HTML 5, with its style inside.
+/// Writes the page of a record: one file of HTML 5, with its style inside. It marks the loans that
+/// are overdue on the day `on`; without a day, it marks none.
 ///
-/// Fails with `NoMemory` or `WriteFailed`, after a front of the page. It takes memory for one row at
-/// a time, and for two lines of the tree for each place and each thing.
-pub fn write_page<W: Write>(alloc: Global, ledger: &Ledger, out: &mut W) -> Result<(), PrintFault>
+/// Fails with `NoMemory` or `WriteFailed`, after the beginning of the page. It takes memory for one
+/// row at a time, for two lines of the tree for each place and each thing, and then for each overdue
+/// loan and for each object that is away from its normal location.
+pub fn write_page<W: Write>(
+    alloc: Global,
+    ledger: &Ledger,
+    on: Option<Day>,
+    out: &mut W,
+) -> Result<(), PrintFault>
     ensures { Writes (W.contents out.old) (W.contents out.new) result
-        (page_text (page ledger.now)) }
+        (page_text (page ledger.now on)) }
 {
     write_numbers(alloc, ledger, out)?;
-    write_tree(alloc, ledger, out)
+    write_tree(alloc, ledger, out)?;
+    write_unplaced(alloc, ledger, out)?;
+    write_loans(alloc, ledger, on, out)?;
+    write_away(alloc, ledger, out)?;
+    write_stations(alloc, ledger, out)?;
+    write_entries(alloc, ledger, out)?;
+    write_text(out, PAGE_END)
 }
 
 /// Writes the head and the museum in numbers.
@@ -33,11 +56,59 @@ fn write_numbers<W: Write>(alloc: Global, ledger: &Ledger, out: &mut W) -> Resul
     write_section(alloc, HEAD, &Numbers { ledger }, NUMBERS_END, out)
 }
 
-/// Writes where everything is, and the end of the page.
+/// Writes where everything is.
 fn write_tree<W: Write>(alloc: Global, ledger: &Ledger, out: &mut W) -> Result<(), PrintFault>
     ensures { Writes (W.contents out.old) (W.contents out.new) result
         (page_text (tree ledger.now)) }
 {
     let rows = Tree::find(alloc, ledger)?;
     write_section(alloc, TREE, &rows, TREE_END, out)
+}
+
+/// Writes the things that were never placed.
+fn write_unplaced<W: Write>(alloc: Global, ledger: &Ledger, out: &mut W) -> Result<(), PrintFault>
+    ensures { Writes (W.contents out.old) (W.contents out.new) result
+        (page_text (unplaced ledger.now)) }
+{
+    let rows = Tree::find_unplaced(alloc, ledger)?;
+    write_section(alloc, UNPLACED, &rows, TREE_END, out)
+}
+
+/// Writes the loans, and marks those that are overdue on the day.
+fn write_loans<W: Write>(
+    alloc: Global,
+    ledger: &Ledger,
+    on: Option<Day>,
+    out: &mut W,
+) -> Result<(), PrintFault>
+    ensures { Writes (W.contents out.old) (W.contents out.new) result
+        (page_text (loans ledger.now on)) }
+{
+    let rows = Loans::find(alloc, ledger, on)?;
+    write_section(alloc, LOANS, &rows, TABLE_END, out)
+}
+
+/// Writes the objects that are away from their normal locations.
+fn write_away<W: Write>(alloc: Global, ledger: &Ledger, out: &mut W) -> Result<(), PrintFault>
+    ensures { Writes (W.contents out.old) (W.contents out.new) result
+        (page_text (away ledger.now)) }
+{
+    let rows = Away::find(alloc, ledger)?;
+    write_section(alloc, AWAY, &rows, TABLE_END, out)
+}
+
+/// Writes the stations.
+fn write_stations<W: Write>(alloc: Global, ledger: &Ledger, out: &mut W) -> Result<(), PrintFault>
+    ensures { Writes (W.contents out.old) (W.contents out.new) result
+        (page_text (stations ledger.now)) }
+{
+    write_section(alloc, STATIONS, &Stations { ledger }, TABLE_END, out)
+}
+
+/// Writes the last entries.
+fn write_entries<W: Write>(alloc: Global, ledger: &Ledger, out: &mut W) -> Result<(), PrintFault>
+    ensures { Writes (W.contents out.old) (W.contents out.new) result
+        (page_text (entries ledger.now)) }
+{
+    write_section(alloc, ENTRIES, &LastEntries { ledger }, TABLE_END, out)
 }

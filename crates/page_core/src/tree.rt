@@ -3,12 +3,12 @@ ghost use Rattle.std.specs.Prelude.{◌≡◌, ◌<◌, All, IfOk, length, map, 
 ghost use Rattle.std.proofs.Props.{props};
 ghost use Rattle.nest_core.specs.Museum.{is_container};
 ghost use Rattle.html_texts.specs.Pieces.{page_text};
-ghost use Rattle.page_core.specs.Tree.{tree_lines};
+ghost use Rattle.page_core.specs.Tree.{lines_at, tree_lines};
 ghost use Rattle.page_core.specs.TreeRows.{IsLineIn, container_row, line_text, node_end};
 ghost use Rattle.page_core.specs.TreeRows.{object_end, object_row, place_row};
 
 use crate::counts::{objects_at, objects_in};
-use crate::lines::{Line, tree_lines};
+use crate::lines::{Line, tree_lines, unplaced_lines};
 use crate::rows::Rows;
 use codes_core::{NoMemory, ThingKind};
 use html_texts::escaped;
@@ -46,6 +46,15 @@ impl<'a> Tree<'a> {
             ≡ map (line_text ledger.entry.now) (tree_lines ledger.entry.now)) }
     {
         let lines = tree_lines(alloc, ledger)?;
+        Ok(Tree { ledger, lines })
+    }
+
+    /// Finds the lines of the things that were never placed. Fails with `NoMemory`.
+    pub(crate) fn find_unplaced(alloc: Global, ledger: &'a Ledger) -> Result<Tree<'a>, NoMemory>
+        ensures { IfOk result (λ found. map (line_text found.ledger.now) found.lines.items
+            ≡ map (line_text ledger.entry.now) (lines_at ledger.entry.now None)) }
+    {
+        let lines = unplaced_lines(alloc, ledger)?;
         Ok(Tree { ledger, lines })
     }
 }

@@ -10,7 +10,8 @@ loop-thing-preserved c =
     let x = c.loop-thing.thing in
     elim c.if-is_object_at.branch [
       | then-is_object_at w ↦
-          let more = count_more p x true (sym c.is_object_at.ensures ∙ w.if-is_object_at.true) in (
+          let more = count_more p x true
+          (sym c.is_object_at.ensures ∙ w.if-is_object_at.true) in (
             omega (arith, more, c.loop-thing.invariant.0),
             omega (arith, c.loop-thing.invariant.1),
           )
