@@ -14,6 +14,7 @@ ghost use Rattle.register_store.specs.StoredRows.{AreSame};
 ghost use Rattle.hub_program.specs.Places.{IsRecordIn, IsKeptAlone, IsMigratedAndKept, grown_by};
 
 mod advice;
+mod blank;
 mod paths;
 
 use crate::advice::Advice;
@@ -22,6 +23,7 @@ use crate::store::advice::{
     is_no_database, on_damage, on_no_record, on_opening, on_other_setup, on_other_version,
     on_refusal, on_statement, store_fault,
 };
+use crate::store::blank::begin;
 use crate::store::paths::{look, remove_log};
 use nest_core::{Growth, Setup};
 use register_sql::SqlRegister;
@@ -130,6 +132,9 @@ pub fn open<'a, S: Start>(
         (image_at S.Start) store.register) }
 {
     let has_log = look(rt, path, begins)?;
+    if begins == Begins::Record {
+        begin(rt, path);
+    }
     match SqlRegister::on_file_from(rt, rt.alloc(), path, start) {
         Ok(register) => {
             let is_new = false;
