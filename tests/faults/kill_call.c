@@ -40,6 +40,7 @@ CALL(int, ftruncate, (int file, off_t size), (file, size))
 CALL(int, fsync, (int file), (file))
 CALL(int, fdatasync, (int file), (file))
 CALL(int, rename, (const char *from, const char *to), (from, to))
+CALL(int, link, (const char *from, const char *to), (from, to))
 CALL(int, unlink, (const char *name), (name))
 
 void _exit(int status)

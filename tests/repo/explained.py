@@ -143,7 +143,7 @@ def is_explained(said, word):
         status == 0
         and errors == ""
         and all(labels)
-        and len(lines) in (3, 4)
+        and len(lines) in (3, 4, 5)
         and max(map(len, lines)) <= 80
     )
 

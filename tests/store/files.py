@@ -25,6 +25,12 @@ ASKING = {
     "at": ["S1"],
     "stations": [],
     "posted": [],
+    "loans": [],
+    "dues": ["--by", "2026-01-01"],
+    "why": ["1"],
+    "seal": [],
+    "receipt": ["1"],
+    "page": [],
 }
 STATIONS = "PACK next 6\nGAL next 1\n"
 MISSING = " does not exist: replay, serve and desk start a new record"
@@ -88,6 +94,26 @@ def test_asking_creates_nothing(room):
     )
     good &= same(over(room, "copy", "none.db", "--to", "to.db"), refused("none.db", MISSING))
     return good and same(sorted(names(room)), ["list.csv", "setup.csv"])
+
+
+def page_size(room):
+    """The size of the pages of the store, from its header."""
+    return int.from_bytes(room.read("museum.db")[16:18], "big")
+
+
+def test_new_store(room):
+    """A new store has pages of 2,048 bytes, and leaves no other file. If a killed start has left its
+    page, or the file is there and empty, the store begins without a page of ours."""
+    room.clear()
+    room.replay(scans(CRATES[:2]))
+    good = same((page_size(room), "museum.db.new" in names(room)), (2048, False))
+    for name in ("museum.db", "museum.db.new"):
+        room.clear()
+        room.write(name, "")
+        room.replay(scans(CRATES[:2]))
+        good &= same((page_size(room), len(read(room.store)[0]["posting"])), (4096, 2))
+        good &= same("museum.db.new" in names(room), name == "museum.db.new")
+    return good
 
 
 def test_log_without_its_database(room):

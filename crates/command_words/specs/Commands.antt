@@ -178,6 +178,10 @@ receipt =
     (word_rule (codes "entry")))
     (codes "entry")) { other_use = Some (codes "check") }
 
+-- The page of a record, with the loans marked that are overdue on a day.
+abbrev pub page : Form
+page = both_needed (with_options (register_app (codes "page")) (codes "on" ∷ codes "upto" ∷ []))
+
 abbrev pub grow : Form
 grow = both_needed (with_rule (register_app (codes "grow")) (flag_rule (codes "check")))
 
@@ -247,8 +251,8 @@ why = report
 -- The commands other than `help`.
 abbrev pub listed : List Form
 listed = replay ∷ serve ∷ desk ∷ lines ∷ check_files ∷ gap ∷ resend ∷ count ∷ audit ∷ overdue
-    ∷ away ∷ history ∷ migrate ∷ copy ∷ seal ∷ receipt ∷ grow ∷ print_setup ∷ explain ∷ stations
-    ∷ where_is ∷ contents ∷ loan ∷ at ∷ posted ∷ loans ∷ dues ∷ why ∷ []
+    ∷ away ∷ history ∷ migrate ∷ copy ∷ seal ∷ receipt ∷ page ∷ grow ∷ print_setup ∷ explain
+    ∷ stations ∷ where_is ∷ contents ∷ loan ∷ at ∷ posted ∷ loans ∷ dues ∷ why ∷ []
 
 abbrev pub commands : List Form
 commands = help ∷ listed

@@ -5,7 +5,7 @@ use Rattle.command_words.specs.Commands.{Form, at, audit, away, check_files, con
 use Rattle.command_words.specs.Commands.{explain, file_rule, gap, lines, resend}
 use Rattle.command_words.specs.Commands.{desk, dues, flag_rule, grow, loans, print_setup, why}
 use Rattle.command_words.specs.Commands.{help, history, loan, migrate, option_rule, overdue, posted}
-use Rattle.command_words.specs.Commands.{receipt, replay, seal, serve, stations, where_is}
+use Rattle.command_words.specs.Commands.{page, receipt, replay, seal, serve, stations, where_is}
 use Rattle.command_words.specs.Commands.{word_rule, words_rule}
 use Rattle.command_words.specs.declared.options.Argument.{Argument}
 use Rattle.command_words.specs.declared.options.Kind.{Kind}
@@ -49,6 +49,7 @@ app_by name.Migrate = migrate.app
 app_by name.Copy = copy.app
 app_by name.Seal = seal.app
 app_by name.Receipt = receipt.app
+app_by name.Page = page.app
 app_by name.Grow = grow.app
 app_by name.Setup = print_setup.app
 app_by name.Explain = explain.app
@@ -81,6 +82,7 @@ form_by name.Migrate = migrate
 form_by name.Copy = copy
 form_by name.Seal = seal
 form_by name.Receipt = receipt
+form_by name.Page = page
 form_by name.Grow = grow
 form_by name.Setup = print_setup
 form_by name.Explain = explain

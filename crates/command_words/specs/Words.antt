@@ -20,7 +20,7 @@ use Rattle.clap.specs.declared.error.kind.ErrorKind.TheVariants.{DisplayVersion,
 use Rattle.command_words.specs.Commands.{Form, at, audit, away, check_files, commands, contents}
 use Rattle.command_words.specs.Commands.{copy, count, desk, gap, lines, resend}
 use Rattle.command_words.specs.Commands.{help, history, loan, migrate, overdue, overview, posted}
-use Rattle.command_words.specs.Commands.{explain, receipt, replay, seal, serve}
+use Rattle.command_words.specs.Commands.{explain, page, receipt, replay, seal, serve}
 use Rattle.command_words.specs.Commands.{dues, grow, loans, print_setup, stations, where_is, why}
 use Rattle.command_words.specs.declared.command.Report.{Report}
 use Rattle.command_words.specs.declared.command.Format.{Format}
@@ -234,6 +234,11 @@ IsChosen words (command.CheckReceipt file entry upto) = IsNamed words (codes "re
     × (value receipt.app words (codes "check") ≡ Some file.now)
     × (value receipt.app words (codes "entry") ≡ text_of entry)
     × (value receipt.app words (codes "upto") ≡ text_of upto)
+IsChosen words (command.Page setup store on upto) = IsNamed words (codes "page")
+    × (value page.app words (codes "setup") ≡ Some setup.now)
+    × (value page.app words (codes "store") ≡ Some store.now)
+    × (value page.app words (codes "on") ≡ text_of on)
+    × (value page.app words (codes "upto") ≡ text_of upto)
 IsChosen words (command.Grow setup store check) = IsNamed words (codes "grow")
     × (value grow.app words (codes "setup") ≡ Some setup.now)
     × (value grow.app words (codes "store") ≡ Some store.now)

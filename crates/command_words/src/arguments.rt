@@ -205,6 +205,13 @@ pub(crate) const ON: Argument = Argument {
     help: "The day from which the days left are counted",
 };
 
+pub(crate) const MARKED_DAY: Argument = Argument {
+    kind: Kind::Valued,
+    id: "on",
+    value: "DAY",
+    help: "Mark the loans that are overdue on DAY",
+};
+
 pub(crate) const BY: Argument = Argument {
     kind: Kind::Valued,
     id: "by",

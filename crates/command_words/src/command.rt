@@ -212,6 +212,14 @@ pub enum Chosen<'a> {
         entry: Option<&'a str>,
         upto: Option<&'a str>,
     },
+    /// Prints the record, or its first `upto` entries, as a page of HTML. Loans that are overdue on
+    /// the day `on` are marked.
+    Page {
+        setup: &'a str,
+        store: &'a str,
+        on: Option<&'a str>,
+        upto: Option<&'a str>,
+    },
     /// Adds what the setup file lists to the store's setup. With `check` it prints what it would
     /// add, and changes nothing.
     Grow {

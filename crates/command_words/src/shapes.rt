@@ -8,8 +8,8 @@ ghost use Rattle.command_words.specs.Words.{form_named, needed_in, texts_of};
 
 use crate::arguments::{
     BELL, BY, CARDS, CHECK, CONTAINER, DAY, DUE, ENTRY, EXPLAINED, FEEDS, FIRST_DAY, FROM, LABELS,
-    LIST, LOAN, LOG, LONG, OF_LOAN, OF_THING, ON, OPEN, OWN_STATION, PLACE, PROGRESS, REFUSED,
-    SEALED, STATION, STRICT, THING, TO, TO_ENTRY, TOPIC, WORD,
+    LIST, LOAN, LOG, LONG, MARKED_DAY, OF_LOAN, OF_THING, ON, OPEN, OWN_STATION, PLACE, PROGRESS,
+    REFUSED, SEALED, STATION, STRICT, THING, TO, TO_ENTRY, TOPIC, WORD,
 };
 use crate::options::{Argument, CSV, JSON, SETUP, STORE, TABLE, UPTO, made, with_help};
 use crate::preparation_arguments::{
@@ -45,6 +45,7 @@ pub(crate) enum Name {
     Copy,
     Seal,
     Receipt,
+    Page,
     Grow,
     Setup,
     Explain,
@@ -61,7 +62,7 @@ pub(crate) enum Name {
 }
 
 /// The commands in the order of the help. `help` is left out, because `clap` adds it.
-const NAMES: [Name; 28] = [
+const NAMES: [Name; 29] = [
     Name::Replay,
     Name::Serve,
     Name::Desk,
@@ -78,6 +79,7 @@ const NAMES: [Name; 28] = [
     Name::Copy,
     Name::Seal,
     Name::Receipt,
+    Name::Page,
     Name::Grow,
     Name::Setup,
     Name::Explain,
@@ -113,6 +115,7 @@ fn word_of(name: Name) -> &'static str
         Name::Copy => "copy",
         Name::Seal => "seal",
         Name::Receipt => "receipt",
+        Name::Page => "page",
         Name::Grow => "grow",
         Name::Setup => "setup",
         Name::Explain => "explain",
@@ -191,7 +194,7 @@ fn needs_of(name: Name) -> &'static [&'static str]
         Name::Why => &["setup", "store", "entry"],
         Name::History | Name::Where | Name::Contents | Name::Loan => &["setup", "store", "code"],
         Name::Copy => &["setup", "store", "to"],
-        Name::Seal => &["setup", "store"],
+        Name::Seal | Name::Page => &["setup", "store"],
         Name::Receipt => &["setup", "store", "entry"],
         Name::Explain => &["name"],
         Name::At => &["setup", "store", "place"],
@@ -218,6 +221,7 @@ fn help_of(name: Name) -> &'static Help {
         Name::Copy => &texts::COPY,
         Name::Seal => &sealing_texts::SEAL,
         Name::Receipt => &sealing_texts::RECEIPT,
+        Name::Page => &texts::PAGE,
         Name::Grow => &texts::GROW,
         Name::Setup => &texts::SETUP,
         Name::Explain => &texts::EXPLAIN,
@@ -279,6 +283,7 @@ fn arguments_of(name: Name) -> &'static [Argument]
         Name::Copy => &[SETUP, STORE, TO],
         Name::Seal => &[SETUP, STORE, SEALED_ENTRIES, SEALS],
         Name::Receipt => &[SETUP, STORE, SEALED_ENTRIES, RECEIPT_FILE, SEALED_ENTRY],
+        Name::Page => &[SETUP, STORE, MARKED_DAY, UPTO],
         Name::Grow => &[SETUP, STORE, CHECK],
         Name::Setup => &[STORE],
         Name::Explain => &[WORD],

@@ -149,6 +149,26 @@ Exit status: 0 the copy is complete; 1 a fault, and no file was created under
 that name; 2 a usage error.",
 };
 
+pub(crate) const PAGE: Help = Help {
+    about: "Prints the record as a web page, in one file",
+    usage: "pairsalder page --setup PATH --store PATH [--on DAY] [--upto N]",
+    more: "\
+For anyone who wants to look at the record and doesn't have the program. The
+page is one file of HTML. Any browser shows it, also offline, and prints it.
+
+The page has the museum in numbers, and then each place with the containers and
+the objects at it. Click a place or a container to open it, or type part of a
+code into the search box. Then come the loans; with --on, those that are overdue
+on DAY are marked. With --upto, the page shows the record as it was after entry
+N.
+
+Example:
+  pairsalder page --setup museum.csv --store museum.db > museum.html
+
+Exit status: 0 the page was printed; 1 a fault; 2 a usage error, or DAY is not a
+day.",
+};
+
 pub(crate) const GROW: Help = Help {
     about: "Adds new stations, places and things to a record's setup",
     usage: "pairsalder grow --setup PATH --store PATH [--check]",

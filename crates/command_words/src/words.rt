@@ -60,6 +60,7 @@ fn named<'a>(alloc: Global, name: Name, words: &'a [&'a str]) -> Result<Chosen<'
         Name::Copy => copy(alloc, words),
         Name::Seal => seal(alloc, words),
         Name::Receipt => receipt(alloc, words),
+        Name::Page => page(alloc, words),
         Name::Grow => grow(alloc, words),
         Name::Setup => print_setup(alloc, words),
         Name::Explain => explain(alloc, words),
@@ -197,6 +198,24 @@ fn copy<'a>(alloc: Global, words: &'a [&'a str]) -> Result<Chosen<'a>, WordsFaul
         setup: record.setup,
         store: record.store,
         to: needed(to)?,
+    })
+}
+
+fn page<'a>(alloc: Global, words: &'a [&'a str]) -> Result<Chosen<'a>, WordsFault>
+    requires { IsNamed (texts_of words.now) (codes "page") }
+    ensures { Chooses (Some commands.page) (texts_of words.now) result }
+{
+    let matches = read(alloc, Name::Page, words)?;
+    let files = files_of(&matches);
+    let on = one(&matches, "on");
+    let upto = one(&matches, "upto");
+    drop(matches);
+    let record = record_of(files)?;
+    Ok(Chosen::Page {
+        setup: record.setup,
+        store: record.store,
+        on,
+        upto,
     })
 }
 

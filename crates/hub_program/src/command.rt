@@ -16,6 +16,7 @@ use crate::gap::{GapWords, fill_gap};
 use crate::growing::{grown, listed};
 use crate::help::help;
 use crate::lines::write_line;
+use crate::page::{PageWords, give_page};
 use crate::progress::Progress;
 use crate::reporting::reported;
 use crate::resending::{ResendWords, compare_file};
@@ -202,6 +203,21 @@ fn perform<
         Chosen::CheckReceipt { file, entry, upto } => {
             let others = entry.is_some() || upto.is_some();
             check_given(rt, file, others, input, output, notes)
+        }
+        Chosen::Page {
+            setup,
+            store,
+            on,
+            upto,
+        } => {
+            let wanted = PageWords {
+                setup,
+                store,
+                on: *on,
+                upto: *upto,
+            };
+            let closed = give_page(rt, wanted, start, output)?;
+            Ok(Ending::Done(Some(closed)))
         }
         Chosen::Grow {
             setup,

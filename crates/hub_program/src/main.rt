@@ -37,6 +37,7 @@ mod judging;
 mod lines;
 mod list_fault;
 mod numbers;
+mod page;
 mod progress;
 mod reporting;
 mod request;

@@ -68,6 +68,10 @@ pub returns-in-Receipt : goal.returns-in-Receipt
 unfolding app_by register_app report_app
 returns-in-Receipt c = ap (λ (n : Name). (app_by n).top.name) (sym c.in-Receipt.is)
 
+pub returns-in-Page : goal.returns-in-Page
+unfolding app_by register_app report_app
+returns-in-Page c = ap (λ (n : Name). (app_by n).top.name) (sym c.in-Page.is)
+
 pub returns-in-Grow : goal.returns-in-Grow
 unfolding app_by register_app report_app
 returns-in-Grow c = ap (λ (n : Name). (app_by n).top.name) (sym c.in-Grow.is)

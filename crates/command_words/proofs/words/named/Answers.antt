@@ -180,6 +180,17 @@ returns-in-Receipt c =
     chooses_by c.args.name _ (texts_of c.args.words.now) _ c.requires
     c.in-Receipt.is c.receipt.ensures
 
+pub page-requires : goal.page-requires
+unfolding form_by register_app report_app
+page-requires c =
+    named_by c.args.name _ (texts_of c.args.words.now) c.requires c.in-Page.is
+
+pub returns-in-Page : goal.returns-in-Page
+unfolding form_by
+returns-in-Page c =
+    chooses_by c.args.name _ (texts_of c.args.words.now) _ c.requires
+    c.in-Page.is c.page.ensures
+
 pub grow-requires : goal.grow-requires
 unfolding form_by register_app report_app
 grow-requires c =
