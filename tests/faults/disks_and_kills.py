@@ -204,7 +204,7 @@ def test_replay_killed_at_each_call(room):
 def test_start_killed_at_each_call(room):
     """A replay that begins a record is killed before each of its calls that change a file: what it
     answered is on record, and the rest can be posted. If the blank page still has both its names,
-    the store is refused until the other name is deleted."""
+    a report refuses the store, and the next replay removes the other name."""
     library, given, good = built(room, "kill_call.c"), scans(to_and_fro(5)), True
     second = "fault store Store\nhelp: museum.db has a second name: delete the hard link\n"
     room.clear()
@@ -212,10 +212,10 @@ def test_start_killed_at_each_call(room):
     for number in range(1, count + 1):
         room.clear()
         answered = killed_run(room, library, number, "replay", given=given).count(" posted ")
-        if all(os.path.exists(room.path(name)) for name in ("museum.db", "museum.db.new")):
-            refused += over(room, "replay", given=given) == (1, "", second)
-            os.remove(room.path("museum.db.new"))
+        has_both = all(os.path.exists(room.path(it)) for it in ("museum.db", "museum.db.new"))
+        refused += has_both and over(room, "stations") == (1, "", second)
         doubles = over(room, "replay", given=given)[1].count(" refused Double\n")
+        good &= not (has_both and os.path.exists(room.path("museum.db.new")))
         rows, _, sound = read(room.store)
         if not (answered <= doubles and len(rows.get("posting", ())) == 5 and sound):
             print(f"call {number} of {count}: {answered} answered, {doubles} kept, {sound}")

@@ -1,8 +1,9 @@
 //! Begins the database file of a new store.
 
 use crate::advice::folder_of;
-use std::fs::File;
+use std::fs::{File, Metadata};
 use std::io::{ErrorKind, Write};
+use std::os::unix::fs::MetadataExt;
 use std::{fs, io};
 
 /// The size of a page in bytes. In an empty file the database makes pages of 4,096 bytes, and where
@@ -24,14 +25,33 @@ const HEADERS: &[u8] = b"SQLite format 3\0\
 /// name first, so a crash leaves no file at the path, or the blank page. A file that another
 /// program creates meanwhile is kept. If anything fails, opening the store creates the file, with
 /// larger pages.
+///
+/// If a run was killed before it could remove the other name of the file, that name is removed.
 pub fn begin(rt: &HostRuntime, path: &str) {
-    match fs::symlink_metadata(rt, path) {
-        Err(error) if error.kind() == ErrorKind::NotFound => {}
-        _ => return,
+    let Ok(part) = format!(in rt.alloc(); "{path}.new") else {
+        return;
+    };
+    let _ = match fs::symlink_metadata(rt, path) {
+        Ok(found) => remove_second_name(rt, path, &found, &part),
+        Err(error) if error.kind() == ErrorKind::NotFound => begin_as(rt, path, &part),
+        Err(error) => Err(error),
+    };
+}
+
+/// Removes the part file if it is another name of the file at the path: a database with two names
+/// can't be opened.
+fn remove_second_name(
+    rt: &HostRuntime,
+    path: &str,
+    found: &Metadata,
+    part: &str,
+) -> io::Result<()> {
+    let other = fs::symlink_metadata(rt, part)?;
+    if other.dev() == found.dev() && other.ino() == found.ino() {
+        fs::remove_file(rt, part)?;
+        File::open(rt, folder_of(path))?.sync_all()?;
     }
-    if let Ok(part) = format!(in rt.alloc(); "{path}.new") {
-        let _ = begin_as(rt, path, &part);
-    }
+    Ok(())
 }
 
 /// Writes the page to the part file, and links the path to it.
