@@ -16,17 +16,18 @@ ROOM = MuseumRoom
 
 VOID = {"meta", "input"}
 MOST = 200  # entries that a page lists
-# what a reader does who looks for an object: the names that the page then shows become its title
+# what a reader does who looks for an object, and clicks on what was found first. Its place, its
+# name, and the name in the tree at which the page is then, become the title
 SEARCH = """<script>
 var box = document.getElementById('find');
 box.value = 'SOUGHT';
 box.dispatchEvent(new Event('input'));
-var shown = Array.from(document.querySelectorAll('.tree li')).filter(function (row) {
-  return row.checkVisibility();
-});
-document.title = shown.map(function (row) {
-  return (row.querySelector(':scope > details > summary') || row).firstChild.data.trim();
-}).join(' ');
+var [button, place] = document.querySelector('#found li').children;
+button.click();
+var here = document.activeElement;
+document.title = [place, button, here.checkVisibility() && here].map(function (node) {
+  return node.textContent.trim();
+}).join(' / ');
 </script>
 </body>"""
 
@@ -156,8 +157,8 @@ def browsed(room, text):
 
 
 def test_browser(room):
-    """In a browser a page loads without an error, and a search shows the object and what it is
-    in."""
+    """In a browser a page loads without an error, and a search finds an object, with what it is in,
+    and leads to its line."""
     number = 3
     record = Record.of(streams.SETUP, json_lines(number))
     room.write("setup.csv", streams.SETUP)
@@ -167,4 +168,4 @@ def test_browser(room):
     sought = next(nodes for nodes in nodes_of(record, True) if len(nodes) > 2)
     shown, console = browsed(room, page.replace("</body>", SEARCH.replace("SOUGHT", sought[-1])))
     title = re.search(r"<title>(.*?)</title>", shown)
-    return same(console, []) & same(title and title[1].split()[: len(sought)], sought)
+    return same(console, []) & same(title and title[1].split(" / "), [*sought, sought[-1]])

@@ -17,8 +17,8 @@ pub fn moves_are_what_was_seen()
         → IsSeenMove B day rows m → Contains (moves B day rows) m }
 {}
 
-/// No row of the list is lost: it agrees with the record, or its thing is among those that were seen
-/// elsewhere, or it has a note.
+/// No row of the list is lost: it agrees with the record, or its thing is among those that were
+/// seen elsewhere, or it has a note.
 pub fn each_row_is_accounted_for()
     ensures { (B : Book) (rows : List CountRow) (i : ℕ) (row : CountRow) (answer : CountAnswer)
         → slice_get rows i ≡ Some row → slice_get (answers B rows) i ≡ Some answer

@@ -18,7 +18,12 @@ input { font: inherit; width: 100%; box-sizing: border-box; padding: 0.4rem 0.6r
 ul { list-style: none; margin: 0; padding-left: 1.1rem; border-left: 1px solid #ddd; }\n\
 ul.tree { padding: 0; border: 0; }\n\
 ul.tree:empty::before { content: \"None\"; }\n\
-summary { cursor: pointer; padding: 0.15rem 0; font-weight: 600; }\n\
+#found { padding: 0; border: 0; }\n\
+#found:not(:empty) { margin-bottom: 1rem; }\n\
+#found button { font: inherit; padding: 0; border: 0; background: none; color: #05c; }\n\
+#found small { margin-left: 1rem; }\n\
+summary, #found button { cursor: pointer; }\n\
+summary { padding: 0.15rem 0; font-weight: 600; }\n\
 small { color: #555; font-weight: 400; }\n\
 .wide { overflow-x: auto; }\n\
 table { border-collapse: collapse; }\n\
@@ -28,7 +33,7 @@ td { border-top: 1px solid #ddd; }\n\
 .loans td:last-child { font-weight: 600; }\n\
 @media print {\n\
 body { max-width: none; font-size: 9pt; }\n\
-input { display: none; }\n\
+input, #found { display: none; }\n\
 .wide { overflow: visible; }\n\
 th, td { white-space: normal; }\n\
 tr { break-inside: avoid; }\n\
@@ -42,10 +47,11 @@ tr { break-inside: avoid; }\n\
 /// After it.
 pub(crate) const NUMBERS_END: &str = "</dl>\n";
 
-/// Before the tree. The search box is shown by the script: without it, the page is as useful.
+/// Before the tree. The script shows the search box.
 pub(crate) const TREE: &str = "<p><input id=\"find\" type=\"search\" \
-placeholder=\"Find a place, an object or a container\" \
-aria-label=\"Find a place, an object or a container\" hidden></p>\n\
+placeholder=\"Find a place, an object, a container or a loan\" \
+aria-label=\"Find a place, an object, a container or a loan\" hidden></p>\n\
+<ul id=\"found\" aria-live=\"polite\"></ul>\n\
 <ul class=\"tree\">";
 
 /// Before the things that were never placed.
@@ -86,28 +92,65 @@ pub(crate) const ENTRIES: &str = "<h2>Last entries</h2>\n\
 /// After the rows of a table.
 pub(crate) const TABLE_END: &str = "</tbody></table></div>\n";
 
-/// The script, and the end of the page.
+/// The script, and the end of the page. A search lists what it finds below the box and leaves the
+/// tree as it is, because to hide and show each row takes seconds on a large page.
 pub(crate) const PAGE_END: &str = "<script>\n\
 var box = document.getElementById('find');\n\
-var rows = Array.from(document.querySelectorAll('.tree li'));\n\
-var names = rows.map(function (row) {\n\
-  var node = row.querySelector(':scope > details > summary') || row;\n\
-  return node.firstChild.data.trim().toLowerCase();\n\
-});\n\
-function show(row) {\n\
-  for (var at = row; at && at.hidden; at = at.parentNode.closest('li')) {\n\
-    at.hidden = false;\n\
-    var above = at.parentNode.closest('details');\n\
-    if (above) above.open = true;\n\
+var found = document.getElementById('found');\n\
+var most = 100;\n\
+var items;\n\
+function nameOf(row) {\n\
+  if (row.cells) return row.cells[0].textContent;\n\
+  return (row.querySelector('summary') || row).firstChild.data.trim();\n\
+}\n\
+function whereIs(row) {\n\
+  var names = [];\n\
+  for (var at = row.parentNode.closest('li'); at; at = at.parentNode.closest('li')) {\n\
+    names.unshift(nameOf(at));\n\
   }\n\
-  row.querySelectorAll('li').forEach(function (inner) { inner.hidden = false; });\n\
+  return names.join(' / ');\n\
+}\n\
+function read() {\n\
+  items = [];\n\
+  document.querySelectorAll('.tree li, .loans tbody tr').forEach(function (row) {\n\
+    items.push({ row: row, name: nameOf(row).toLowerCase() });\n\
+  });\n\
+}\n\
+function show(row) {\n\
+  var above = row.closest('details');\n\
+  while (above) {\n\
+    above.open = true;\n\
+    above = above.parentNode.closest('details');\n\
+  }\n\
+  var node = row.querySelector('summary') || row;\n\
+  node.tabIndex = -1;\n\
+  node.scrollIntoView({ block: 'center' });\n\
+  node.focus();\n\
+}\n\
+function add(text, row) {\n\
+  var node = found.appendChild(document.createElement('li'));\n\
+  if (!row) { node.textContent = text; return; }\n\
+  var name = node.appendChild(document.createElement('button'));\n\
+  name.textContent = text;\n\
+  name.addEventListener('click', function () { show(row); });\n\
+  var place = node.appendChild(document.createElement('small'));\n\
+  place.textContent = whereIs(row);\n\
+}\n\
+function find() {\n\
+  if (!items) read();\n\
+  var text = box.value.trim().toLowerCase();\n\
+  found.replaceChildren();\n\
+  if (text === '') return;\n\
+  var hits = items.filter(function (item) { return item.name.includes(text); });\n\
+  var exact = hits.filter(function (item) { return item.name === text; });\n\
+  exact.concat(hits.filter(function (item) { return item.name !== text; }))\n\
+    .slice(0, most).forEach(function (item) { add(nameOf(item.row), item.row); });\n\
+  if (hits.length === 0) add('Nothing found');\n\
+  if (hits.length > most) add('and ' + (hits.length - most) + ' more');\n\
 }\n\
 box.hidden = false;\n\
-box.addEventListener('input', function () {\n\
-  var text = box.value.trim().toLowerCase();\n\
-  rows.forEach(function (row) { row.hidden = text !== ''; });\n\
-  if (text !== '') rows.forEach(function (row, i) { if (names[i].includes(text)) show(row); });\n\
-});\n\
+box.addEventListener('focus', function () { if (!items) read(); });\n\
+box.addEventListener('input', find);\n\
 addEventListener('beforeprint', function () {\n\
   document.querySelectorAll('details').forEach(function (node) { node.open = true; });\n\
 });\n\

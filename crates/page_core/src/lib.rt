@@ -1,8 +1,9 @@
 //! A record as one page of HTML: a file to look at, to search and to print.
 //!
-//! [`write_page`] writes the page. Its contract promises each byte: it writes the text of the pieces
-//! that `specs/Pages` defines for the ledger, and after a fault only the beginning of that text. The
-//! rows of a section are made one at a time, as they are written. The page is never in memory.
+//! [`write_page`] writes the page. Its contract promises each byte: it writes the text of the
+//! pieces that `specs/Pages` defines for the ledger, and after a fault only the beginning of that
+//! text. The rows of a section are made one at a time, as they are written. The page is never in
+//! memory.
 //! [`write_page_as_of`] does the same for the record as it was after an earlier entry.
 //!
 //! ```text

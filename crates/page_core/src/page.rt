@@ -27,8 +27,8 @@ use std::io::Write;
 /// are overdue on the day `on`; without a day, it marks none.
 ///
 /// Fails with `NoMemory` or `WriteFailed`, after the beginning of the page. It takes memory for one
-/// row at a time, for two lines of the tree for each place and each thing, and then for each overdue
-/// loan and for each object that is away from its normal location.
+/// row at a time, for two lines of the tree for each place and each thing, and then for each
+/// overdue loan and for each object that is away from its normal location.
 pub fn write_page<W: Write>(
     alloc: Global,
     ledger: &Ledger,

@@ -1,4 +1,4 @@
-use Rattle.std.proofs.Common.{◌≡◌, ◌∙◌, ◌∷◌, [], ℕ, IfOk, List, Some, ap, length, map, option_map}
+use Rattle.std.proofs.Common.{◌≡◌, ◌∙◌, ◌∷◌, [], ℕ, IfOk, List, Some, ap, length, option_map}
 use Rattle.std.proofs.Common.{string_bytes, subst}
 use Rattle.reports.specs.Cells.{Cell, day_if, number, text, text_if}
 use Rattle.reports.specs.Loans.{state_cell, state_word}

@@ -1,4 +1,4 @@
-use Rattle.std.proofs.Common.{◌≡◌, ◌∙◌, ◌+◌, ap, arith, cond, filter, length, sym, take}
+use Rattle.std.proofs.Common.{◌∙◌, ◌+◌, ap, arith, cond, filter, length, sym, take}
 use Rattle.std.proofs.lemmas.List.Filters.{length-filter_more}
 use Rattle.page_core.specs.Loans.{is_out}
 use Rattle.page_core.specs.Terms.{agreement_with}

@@ -1,4 +1,4 @@
-use Rattle.std.proofs.Common.{◌<◌, ◌∙◌, Some, ap, arith, length, sym}
+use Rattle.std.proofs.Common.{◌<◌, ◌∙◌, Some, ap, arith, sym}
 use Rattle.std.proofs.lemmas.Result.{IfOk-weaker}
 use Rattle.page_core.specs.Entries.{entry_text, shown}
 use Rattle.page_core.proofs.NumberedRows.{numbered, numbered_within}
