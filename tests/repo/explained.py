@@ -69,7 +69,7 @@ REPLIES += [
 # those of a desk
 REPLIES += ["to", "into", "out", "not sent", "no target", "no day", "nothing", "not understood"]
 # those of the commands that prepare lines or check files
-REPLIES += ["table", "lines", "same", "other", "waits", "ok"]
+REPLIES += ["table", "lines", "same", "other", "waits", "ok", "OtherStation"]
 # those of seals and receipts
 REPLIES += ["holds", "broken", "seal", "receipt"]
 
@@ -143,7 +143,7 @@ def is_explained(said, word):
         status == 0
         and errors == ""
         and all(labels)
-        and len(lines) in (3, 4, 5)
+        and len(lines) in (3, 4)
         and max(map(len, lines)) <= 80
     )
 

@@ -139,7 +139,7 @@ Copy a record to another folder or computer, or move it there, between runs:
 
 Restore. Move both old files out of the way, then put a copy in their place:
 
-  mkdir old; mv museum.db* old; cp backup.db museum.db
+  mkdir old && mv museum.db* old && cp backup.db museum.db
 
 While a command runs, the newest entries are in museum.db-wal. If a run was
 killed, this file stays. Leave the two files together and run the next command,

@@ -14,8 +14,7 @@ pub(crate) const SEAL_WORDS: &[Meaning] = &[
     Meaning {
         word: "broken",
         means: "an entry under the seal was changed, or the receipt is wrong",
-        cause: "the store was changed, cut off or restored from a backup, or the seal is\n\
-            of another record or was copied wrongly.",
+        cause: "the store was changed or cut off, or the seal is of another record.",
         action: "compare the line with the seal that was kept. Check the seals of earlier\n\
             days, and the copies of the record, to find when it was changed.",
     },

@@ -19,6 +19,12 @@ pub(crate) const SHEET_WORDS: &[Meaning] = &[
         action: "explain the word that follows. The help: line shows the line.",
     },
     Meaning {
+        word: "OtherStation",
+        means: "the line is a message of another station",
+        cause: "the file is another station's, or has the lines of several stations.",
+        action: "name the station of the file, or compare each station's lines alone.",
+    },
+    Meaning {
         word: "Utf16",
         means: "the spreadsheet is text in UTF-16, not in UTF-8",
         cause: "it was saved as Unicode text.",
