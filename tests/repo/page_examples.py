@@ -5,7 +5,7 @@ import re
 import shutil
 import subprocess
 
-from common.room import ROOT, none_of
+from common.room import ROOT, none_of, same
 
 NAMED = "export PAIRSALDER_SETUP=museum.csv PAIRSALDER_STORE=museum.db"
 DAYS = "for day in monday tuesday wednesday; do pairsalder replay < $day.jsonl; done"
@@ -18,19 +18,37 @@ GROWN = (
     "pairsalder replay < thursday.jsonl; pairsalder grow --setup new.csv;"
     "pairsalder setup > grown; mv grown museum.csv; pairsalder replay < friday.jsonl"
 )
+# a desk that has the store, and one that was killed after it answered a move
+ANSWERED = "for i in {{1..600}}; do grep -qs {} answers && break; sleep 0.1; done"
+OPEN = (
+    "mkfifo scans; pairsalder desk --station STORE --day 2024-06-07 < scans > answers & exec 3> scans;"
+    f"echo A-1 >&3; {ANSWERED.format('A-1')}"
+)
+KILLED = f"echo 1987.12.3 >&3; {ANSWERED.format('Applied')}; kill -9 $!; wait $!"
+SHEET = "printf 'thing;place\\n1987.12.3;A-2\\n' > moves.csv"
 # where examples run: the folder that is copied, and what is done there first
 PLACES = {
     "audit": ("examples/three-days", f"{NAMED}; {DAYS}; {LISTS}"),
     "bench": ("examples/bench", f"{NAMED}; {BENCH}"),
     "data": ("examples/three-days", f"{NAMED}; {DAYS}; {GROWN}"),
     "days": ("examples/three-days", ":"),
+    "held": ("examples/three-days", f"{NAMED}; {DAYS}; {GROWN}; {OPEN}"),
+    "killed": ("examples/three-days", f"{NAMED}; {DAYS}; {GROWN}; {OPEN}; {KILLED}"),
+    "sheets": ("examples/three-days", f"({NAMED}; {DAYS}); {SHEET}"),
     "seals": ("cases/seals", f"{NAMED}; pairsalder replay < start.jsonl"),
 }
 # the pages, and from which heading on their examples run where; None for those that aren't run
 PAGES = {
     "AUDIT": {"": "audit", "Find out why": "bench", "List the loans": "audit"},
     "DATA": {"": "data"},
+    "OPERATING": {
+        "": "data",
+        "Who can use a record": "held",
+        "Another machine": "data",
+        "When something goes wrong": "killed",
+    },
     "SEALS": {"": "seals"},
+    "SPREADSHEETS": {"": "sheets"},
     "USING": {"": None, "A day's messages": "days"},
 }
 # the blocks that a page says to save: how each begins, and the name of its file
@@ -70,9 +88,9 @@ def is_shown(shown, printed):
 class Shell:
     """A shell in a copy of a folder, with the program on its path."""
 
-    def __init__(self, room, place):
+    def __init__(self, room, page, place):
         source, first = PLACES[place]
-        self.folder = shutil.copytree(os.path.join(ROOT, source), room.path(place))
+        self.folder = shutil.copytree(os.path.join(ROOT, source), room.path(f"{page}-{place}"))
         path = room.path("bin") + os.pathsep + os.environ["PATH"]
         self.shell = subprocess.Popen(
             ["bash"],
@@ -93,6 +111,8 @@ class Shell:
         return "".join(lines)[:-1]
 
     def end(self):
+        # a desk that is open ends with its input
+        self.printed("exec 3>&-; wait")
         self.shell.stdin.close()
         self.shell.wait()
         self.shell.stdout.close()
@@ -108,7 +128,7 @@ def wrong(room, page):
         if place is None:
             continue
         if place not in shells:
-            shells[place] = Shell(room, place)
+            shells[place] = Shell(room, page, place)
         for first, name in SAVED.items():
             if lines[0].startswith(first):
                 pathlib.Path(shells[place].folder, name).write_text("\n".join(lines) + "\n")
@@ -123,7 +143,31 @@ def wrong(room, page):
 
 
 def test_page_examples(room):
-    """Each `$` line of AUDIT, DATA, SEALS and USING prints what the page shows, errors included."""
+    """Each `$` line of AUDIT, DATA, OPERATING, SEALS, SPREADSHEETS and USING prints what the page
+    shows, errors included."""
     os.mkdir(room.path("bin"))
     os.symlink(room.program, room.path("bin/pairsalder"))
     return none_of(it for page in PAGES for it in wrong(room, page))
+
+
+def test_desk_page(room):
+    """The answers of a desk in the tables of DESK are those that it gives to the scans beside."""
+    text = pathlib.Path(ROOT, "docs", "DESK.md").read_text(encoding="utf-8")
+    tables = re.findall(r"^\| scan or type \| answer \|\n.*\n((?:\|.*\n)+)", text, re.M)
+    folder = shutil.copytree(os.path.join(ROOT, "examples/bench"), room.path("bench"))
+    # on Monday the objects are put on their shelf first
+    before, good = ["A-1", "1987.12.1", "1987.12.2", "1987.12.3"], same(len(tables), 2)
+    for table, day in zip(tables, (["--day", "2024-06-03"], [])):
+        scans, answers = zip(*re.findall(r"^\| `(.*?)` \| `(.*?)` \|$", table, re.M))
+        words = ["desk", "--setup", "museum.csv", "--store", "museum.db", "--station", "PACKING"]
+        run = subprocess.run(
+            [room.program, *words, *day],
+            cwd=folder,
+            input="".join(it + "\n" for it in [*before, *scans]),
+            capture_output=True,
+            text=True,
+        )
+        good &= same(run.stdout.splitlines()[len(before) :], list(answers))
+        good &= same(len(answers), table.count("\n"))
+        before = []
+    return good
