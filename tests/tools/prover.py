@@ -67,6 +67,7 @@ CI_ENDED = re.compile(r"^\d+ passed, \d+ failed$", re.M)  # the last line of `rt
 # a line of the prover about a place: file, line, what it says
 PLACE = re.compile(r"(?:note: )?(?:\./)?((?:src|specs|proofs)/\S+?):(\d+):\d+: (.*)")
 NOT_PROVED = "it is not proved that"
+GOAL = re.compile(r"\(`([^`]+)`\)")  # the name of the goal in this line
 ERROR = "error: "
 UNREAD = "error"  # what a line on a text that it cannot read begins with
 VERDICT = "fn {}::{}: "  # what a line on a function begins with

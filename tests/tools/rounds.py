@@ -14,6 +14,10 @@ percent of the time. No function is proved so. So an edit that isn't refused is 
 without it. The program is tried without its `main`: then it is a library, for which the prover
 links no code of the crates below.
 
+A goal that fails is dear: the prover tries six tactics on it. The goals that an edit names failed
+so when the edit was written. In a round they are answered by `search rules`, the first of the six,
+which proves most goals. An edit that isn't refused so is tried once more with all six.
+
 If an edit names the clauses that refuse it, its copy has these alone of all that its function
 ensures. Then these refuse it, or what every contract has: the invariant of its type, and the
 requirements of the functions that it calls. An edit that isn't refused so is tried once more under
@@ -34,6 +38,10 @@ from wrong_bodies import ENSURES
 
 MOST = 150  # edits of a round, which bounds its memory
 LACKS = "only because a proof file names what the edit took away: "
+# the answer to a goal that an edit names, and what it uses
+ANSWER = "\n\npub {0} : goal.{0}\n{0} c = search rules\n"
+RULES = "use Rattle.std.proofs.Common.{rules}\n"
+HAS_RULES = re.compile(r"(?m)^use Rattle[.]std[.]proofs[.]Common[.]\{[^}]*\brules\b")
 # an answer of the wrong type: the prover prints no advice on the goals of a function that has one
 NO_ADVICE = "\n\nno-advice : Type 0\nno-advice = Type 0\n"
 
@@ -174,17 +182,24 @@ def lay_out(crate, room, group, known, has_holes, is_short):
         shutil.rmtree(f"{room}/proofs/{function.proofs()}", ignore_errors=True)
     for function in [it for it in bare if it not in main]:
         leave_a_hole(crate, f"{room}/proofs/{function.proofs()}", function)
-    for proofs in (
-        {proofs for places in stands.values() for *_, proofs in places} if is_short else ()
-    ):
-        refuse_advice(f"{room}/proofs/{proofs}")
+    for edit, places in stands.items() if is_short else ():
+        for *_, proofs in places:
+            answer(crate, f"{room}/proofs/{proofs}", proofs, edit.goals if len(places) == 1 else [])
     return stands
 
 
-def refuse_advice(folder):
+def answer(crate, folder, proofs, goals):
+    """Answers these goals by `search rules`, if they have no answer, and refuses advice on the
+    others."""
     file = f"{folder}/Answers.antt"
-    if not os.path.exists(f"{folder}/Proof.antt"):
-        write(file, (text_of(file) if os.path.exists(file) else "") + NO_ADVICE)
+    if os.path.exists(f"{folder}/Proof.antt"):
+        return
+    text = text_of(file) if os.path.exists(file) else ""
+    names = f"use Rattle.{crate.name}.proofs.{proofs.replace('/', '.')}.Goals as goal\n"
+    answers = "".join(ANSWER.format(it) for it in goals if f"\npub {it} :" not in text)
+    if answers:
+        text = RULES * (not HAS_RULES.search(text)) + names * (names not in text) + text + answers
+    write(file, text + NO_ADVICE)
 
 
 def leave_a_hole(crate, folder, function):
@@ -250,6 +265,21 @@ def told_of(places, lines):
     return told
 
 
+def failed_goals(places, lines):
+    """The goals of an edit's only function that no tactic proves."""
+    found = [
+        (at, prover.GOAL.search(at[3]))
+        for at in map(prover.PLACE.match, lines)
+        if at and prover.NOT_PROVED in at[3] and not prover.ECHO.search(at[0])
+    ]
+    return [
+        goal[1]
+        for at, goal in found
+        for _, file, first, last, _ in places
+        if goal and len(places) == 1 and at[1] == file and first < int(at[2]) <= last + 1
+    ]
+
+
 def judge(crate, places, said, is_short):
     """Whether the edit is refused and by what, or None where this check can't tell. A short one
     proves nothing: it can tell only that a goal isn't proved, or that the proof rests on an answer
@@ -288,6 +318,8 @@ def try_round(crate, room, work, group, known, is_short):
         for edit in group:
             edit.seconds += sum(taken[name] for name, *_ in stands[edit])
         tried = [(it, *judge(crate, stands[it], said, is_short)) for it in group]
+        for edit in group:
+            edit.failed = failed_goals(stands[edit], said.split("\n"))
         # on the whole crate a proof that has a hole may be the one that fails
         if asked or tried[0][1]:
             break
@@ -319,7 +351,7 @@ def try_crate(crate, edits, known):
                 if (
                     refused is None
                     and not why
-                    or edit.clauses
+                    or (edit.clauses or edit.goals)
                     and (not refused or why.startswith(LACKS))
                 ):
                     again.append(edit)
@@ -327,6 +359,7 @@ def try_crate(crate, edits, known):
                     yield edit, refused, why
         for edit in again:
             clauses, edit.number, edit.clauses = edit.clauses, int(edit.is_doubled()), set()
+            edit.goals = []
             [(_, refused, why)] = try_round(crate, f"{top}/room", work, [edit], known, False)
             yield edit, refused, "not by the clauses that it names: " * bool(
                 clauses and refused

@@ -6,7 +6,8 @@ An edit begins with its title and with the function whose contract refuses it:
   refused by: compare, complete
 
 After the function come the clauses that refuse the edit, if they have names. A third line,
-`because: ...`, is for a remark.
+`because: ...`, is for a remark. `goals: ...` names the goals that no tactic proves, as
+`tests/tools/edits --goals` finds them.
 
 Then comes the change. Each `new` text replaces an `old` one, which is in the `file` once; or `body`
 replaces the whole body of the function `fn`, named by the end of the path by which the prover names
@@ -37,7 +38,7 @@ tries these, and `make test` doesn't.
 [PROMISES](PROMISES.md#what-is-neither-proved-nor-tested) lists what no contract can exclude. [CONTRIBUTING](../CONTRIBUTING.md) describes how to
 write an edit.
 """
-HEAD = re.compile(r"wrong: (.+)\nrefused by: ([\w:]+)((?:, \w+)*)\n(?:because: (.+)\n)?(?=file: )")
+HEAD = re.compile(r"wrong: (.+)\nrefused by: ([\w:]+)((?:, \w+)*)\n(?:because: (.+)\n)?(?:goals: (.+)\n)?(?=file: )")
 TESTED = re.compile(r"wrong: (.+)\ntest: (?:\w+::)*(\w+)\n(?=file: )")
 NO_HEAD = (
     "it doesn't begin with 'wrong: TITLE' and 'refused by: FUNCTION, CLAUSE..', "
@@ -45,7 +46,9 @@ NO_HEAD = (
 )
 ENSURES = re.compile(r"^ *ensures (\w+) \{", re.M)
 
-Head = collections.namedtuple("Head", "title function clauses remark")
+GOALS = re.compile(r"(?m)^goals: .+\n")
+
+Head = collections.namedtuple("Head", "title function clauses remark goals")
 
 
 def name_of(file):
@@ -53,10 +56,12 @@ def name_of(file):
 
 
 def head_of(text):
-    """The title of an edit, the function and the clauses that refuse it, and the remark; None if
-    there is no title."""
+    """The title of an edit, the function and the clauses that refuse it, the remark, and the goals
+    that fail; None if there is no title."""
     found = HEAD.match(text)
-    return found and Head(found[1], found[2], re.findall(r"\w+", found[3]), found[4] or "")
+    return found and Head(
+        found[1], found[2], re.findall(r"\w+", found[3]), found[4] or "", (found[5] or "").split()
+    )
 
 
 class Edit:
@@ -67,10 +72,12 @@ class Edit:
         self.file, self.name = file, f"{crate.name}/{name_of(file)}"
         self.number, self.clauses, self.seconds = 0, set(), 0.0
         self.spans, self.functions, self.is_alone, self.bad = [], [], False, ""
+        self.failed = []
         head, lines = head_of(text_of(file)), re.findall(
             r"(?m)^(file|old|new|fn|body): ?(.*)$", text_of(file)
         )
         self.is_whole = [key for key, _ in lines] == ["file", "fn", "body"]
+        self.goals = head.goals if head else []
         if not head:
             self.bad = NO_HEAD
         elif self.is_whole:
@@ -123,6 +130,13 @@ class Edit:
             f"{crate.folder}/proofs/{function.proofs()}/Proof.antt"
         )
         return clauses if clauses < set(ENSURES.findall(contract)) and not has_proof else set()
+
+    def write_goals(self):
+        """Writes the goals that failed into the file of the edit."""
+        line = f"goals: {' '.join(self.failed)}\n" if self.failed else ""
+        text = GOALS.sub("", text_of(self.file), count=1)
+        with open(self.file, "w", encoding="utf-8") as it:
+            it.write(re.sub(r"(?m)^(?=file: )", line, text, count=1))
 
     def can_be_copied(self):
         return len(self.functions) == 1 and self.functions[0].can_be_copied(self.is_whole)
