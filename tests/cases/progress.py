@@ -49,17 +49,19 @@ def test_counts(room):
 def test_each_second(room):
     """A line comes about once a second while a replay runs."""
     words = ["replay", "--setup", "setup.csv", "--progress"]
-    # a line each tenth of a second: some three lines come before the last one
+    # a line each tenth of a second, more slowly on a busy machine
+    began = time.monotonic()
     with room.begin(*words, stdout=subprocess.DEVNULL, stderr=subprocess.PIPE) as slow:
         for number in range(1, 36):
             slow.stdin.write(scan(number, move("C1", "S1")).encode())
             time.sleep(0.1)
         slow.stdin.close()
         lines = slow.stderr.read().decode().splitlines()
-    print(lines)
+    seconds = time.monotonic() - began
+    print(seconds, lines)
     counted = "35 lines, 35 posted, 0 not applied, 0 held, 0 refused, 0 bad, 0 questions, "
     return (
         all(LINE.fullmatch(line) for line in lines)
-        and 3 <= len(lines) <= 6
+        and 2 <= len(lines) <= seconds + 1
         and lines[-1].startswith(counted)
     )

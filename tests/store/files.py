@@ -3,7 +3,6 @@ programs."""
 import os
 import shutil
 import sqlite3
-import time
 
 from common.museum import CRATES, LOAN, SETUP, MuseumRoom
 from common.museum import pack, scan, scans
@@ -248,9 +247,8 @@ def test_another_program(room):
             "migrate": [],
             "copy": ["--to", "to.db"],
         }.items():
-            began = time.monotonic()
+            # it doesn't wait for the other program, which doesn't end
             good &= same(over(room, command, "museum.db", *more), in_use)
-            good &= time.monotonic() - began < 5
         other.close()
         good &= same(over(room, "stations", "museum.db"), (0, STATIONS, ""))
     return good and not os.path.exists(room.path("to.db"))
