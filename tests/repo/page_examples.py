@@ -5,7 +5,7 @@ import re
 import shutil
 import subprocess
 
-from common.room import ROOT, none_of, same
+from common.room import ROOT, Failed, none_of, same
 
 NAMED = "export PAIRSALDER_SETUP=museum.csv PAIRSALDER_STORE=museum.db"
 DAYS = "for day in monday tuesday wednesday; do pairsalder replay < $day.jsonl; done"
@@ -21,7 +21,8 @@ GROWN = (
 # a desk that has the store, and one that was killed after it answered a move
 ANSWERED = "for i in {{1..600}}; do grep -qs {} answers && break; sleep 0.1; done"
 OPEN = (
-    "mkfifo scans; pairsalder desk --station STORE --day 2024-06-07 < scans > answers & exec 3> scans;"
+    "mkfifo scans; exec 3<> scans;"
+    "pairsalder desk --station STORE --day 2024-06-07 < scans > answers 3>&- &"
     f"echo A-1 >&3; {ANSWERED.format('A-1')}"
 )
 KILLED = f"echo 1987.12.3 >&3; {ANSWERED.format('Applied')}; kill -9 $!; wait $!"
@@ -107,8 +108,12 @@ class Shell:
         """What a command prints, with its errors."""
         self.shell.stdin.write(f"{{ {command}\n}} < /dev/null\necho; echo END OF EXAMPLE\n")
         self.shell.stdin.flush()
-        lines = iter(self.shell.stdout.readline, "END OF EXAMPLE\n")
-        return "".join(lines)[:-1]
+        lines = []
+        for line in self.shell.stdout:
+            if line == "END OF EXAMPLE\n":
+                return "".join(lines)[:-1]
+            lines.append(line)
+        raise Failed(f"the shell ended at {command}: {lines}")
 
     def end(self):
         # a desk that is open ends with its input
