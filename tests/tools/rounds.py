@@ -15,8 +15,9 @@ without it. The program is tried without its `main`: then it is a library, for w
 links no code of the crates below.
 
 A goal that fails is dear: the prover tries six tactics on it. The goals that an edit names failed
-so when the edit was written. In a round they are answered by `search rules`, the first of the six,
-which proves most goals. An edit that isn't refused so is tried once more with all six.
+so when the edit was written. So its copy answers only the first of them, by `search rules`, the
+first of the six, which proves most goals, and no tactic tries the others. If it can't be copied,
+all that it names are answered so. An edit that isn't refused so is tried once more with all six.
 
 If an edit names the clauses that refuse it, its copy has these alone of all that its function
 ensures. Then these refuse it, or what every contract has: the invariant of its type, and the
@@ -67,7 +68,12 @@ def rounds_of(edits):
         if group is None:
             rounds.append(group := [])
         others = [it for it in group if any(at in it.functions for at in edit.functions)]
-        is_in_place = not edit.clauses and not edit.is_doubled() and all(it.number for it in others)
+        is_in_place = (
+            not edit.clauses
+            and not edit.is_doubled()
+            and not (edit.goals and edit.can_be_copied())
+            and all(it.number for it in others)
+        )
         edit.number = 0 if is_in_place else 1 + sum(bool(it.number) for it in others)
         group.append(edit)
     return rounds
@@ -110,6 +116,14 @@ def with_clauses(contract, clauses):
     return contract
 
 
+def untried(contract):
+    """The contract of a function of which no tactic tries a goal, and each line in its place."""
+    own = re.compile(r"(?ms)^ *#\[tactic\(.*?\)\]$")
+    contract = own.sub(lambda it: "\n" * it[0].count("\n"), contract)
+    head = r"(?m)^( *)(?=(?:pub(?:\(\w+\))? )?fn )"
+    return re.sub(head, r"\1#[tactic(none)] ", contract, count=1)
+
+
 def with_answers_of(text, clauses):
     """The answers but those to goals of other clauses."""
     parts = re.split(r"(?m)^(?=pub )", text)
@@ -126,6 +140,7 @@ def copied(crate, room, edit, text):
     contract = "\n".join(lines[function.first : function.body])
     contract = with_clauses(contract, edit.clauses) if edit.clauses else contract
     contract = re.sub(r"(?m)^ *#\[cycle\(\w+\)\]$", "", contract)  # a copy is in none
+    contract = untried(contract) if edit.goals else contract
     body = "\n".join([contract, *lines[function.body : function.last + 1]])
     body = re.sub(rf"\bfn {function.name}\b", f"fn {name}", body, count=1)
     text += f"\n{function.impl.head}\n" if function.impl else ""
@@ -137,6 +152,8 @@ def copied(crate, room, edit, text):
     for file in (
         [] if edit.is_whole else glob.glob(f"{crate.folder}/proofs/{function.proofs()}/*.antt")
     ):
+        if edit.goals and file.endswith("/Answers.antt"):
+            continue
         answers = re.sub(cited, r"\g<1>" + to.replace("/", "."), text_of(file))
         answers = with_answers_of(answers, edit.clauses) if edit.clauses else answers
         write(f"{room}/proofs/{to}/{os.path.basename(file)}", answers)
@@ -183,8 +200,10 @@ def lay_out(crate, room, group, known, has_holes, is_short):
     for function in [it for it in bare if it not in main]:
         leave_a_hole(crate, f"{room}/proofs/{function.proofs()}", function)
     for edit, places in stands.items() if is_short else ():
+        # in a copy no tactic tries the others, so one that fails is enough
+        goals = edit.goals[:1] if edit.number else edit.goals
         for *_, proofs in places:
-            answer(crate, f"{room}/proofs/{proofs}", proofs, edit.goals if len(places) == 1 else [])
+            answer(crate, f"{room}/proofs/{proofs}", proofs, goals if len(places) == 1 else [])
     return stands
 
 
@@ -247,9 +266,9 @@ def check(crate, room, asked, work, has_holes):
     return "".join(said), taken
 
 
-def told_of(places, lines):
-    """The first line that tells a failed goal or answer of these functions, or of any where none
-    are told."""
+def told_of(places, lines, by_answers):
+    """The first line that tells a failed answer of these functions, or a failed goal, unless no
+    tactic tried the goals; of any function where none are told."""
     told = ""
     for line in lines:
         at = prover.PLACE.match(line)
@@ -258,7 +277,8 @@ def told_of(places, lines):
         is_goal, is_error = prover.NOT_PROVED in at[3], prover.ERROR in at[3]
         mine = not places and (is_goal or is_error)
         for _, file, first, last, proofs in places:
-            mine |= is_goal and at[1] == file and first < int(at[2]) <= last + 1
+            is_own = at[1] == file and first < int(at[2]) <= last + 1
+            mine |= is_goal and is_own and not by_answers
             mine |= is_error and at[1].startswith(f"proofs/{proofs}/")
         if mine and (not told or not prover.NAMES.search(line)):
             told = line
@@ -280,10 +300,10 @@ def failed_goals(places, lines):
     ]
 
 
-def judge(crate, places, said, is_short):
+def judge(crate, places, said, is_short, by_answers):
     """Whether the edit is refused and by what, or None where this check can't tell. A short one
     proves nothing: it can tell only that a goal isn't proved, or that the proof rests on an answer
-    that is refused."""
+    that is refused. By answers only the latter counts."""
     lines = said.split("\n")
     if not prover.ENDED.search(said.rstrip()):
         is_own = lambda it: any(it[1] == at[1] and at[2] < int(it[2]) <= at[3] + 1 for at in places)
@@ -296,7 +316,7 @@ def judge(crate, places, said, is_short):
     errors = [it for it in map(prover.PLACE.match, lines) if it and it[3].startswith(prover.ERROR)]
     if any(it[1] == at[1] and at[2] < int(it[2]) <= at[3] + 1 for it in errors for at in places):
         return None, ""  # a contract that can't be read refuses nothing
-    told = told_of(places, lines)
+    told = told_of(places, lines, by_answers)
     if not places:
         return bool(told), told
     heads = tuple(prover.VERDICT.format(crate.name, it[0]) for it in places)
@@ -317,7 +337,10 @@ def try_round(crate, room, work, group, known, is_short):
         said, taken = check(crate, room, asked, work, has_holes)
         for edit in group:
             edit.seconds += sum(taken[name] for name, *_ in stands[edit])
-        tried = [(it, *judge(crate, stands[it], said, is_short)) for it in group]
+        tried = [
+            (it, *judge(crate, stands[it], said, is_short, bool(it.number and it.goals)))
+            for it in group
+        ]
         for edit in group:
             edit.failed = failed_goals(stands[edit], said.split("\n"))
         # on the whole crate a proof that has a hole may be the one that fails
