@@ -27,6 +27,7 @@ use Rattle.command_words.specs.declared.command.Format.{Format}
 use Rattle.command_words.specs.declared.command.Format.TheVariants.{Csv, Json, Lines, Table}
 use Rattle.command_words.specs.declared.command.Asked.{Asked}
 use Rattle.command_words.specs.declared.command.AuditWords.{AuditWords}
+use Rattle.command_words.specs.declared.command.DeskWords.{DeskWords}
 use Rattle.command_words.specs.declared.command.Entries.{Entries}
 use Rattle.command_words.specs.declared.command.TableWords.{TableWords}
 use Rattle.command_words.specs.declared.command.Asked.TheVariants as asked
@@ -123,6 +124,21 @@ HoldsTable rows table = (first_of (codes "setup") rows ≡ Some table.setup.now)
     × (is_true (first_of (codes "strict") rows) ≡ table.strict)
     × (first_of (codes "table") rows ≡ Some table.table.now)
 
+-- A value that the command needs is missing.
+abbrev pub IsMissing : List Text → List Row → WordsFault → Type 0
+IsMissing ids rows fault =
+    (fault ≡ Missing) × (list_any (λ id. not (is_some (first_of id rows))) ids ≡ true)
+
+-- The matches have these values for a desk.
+abbrev pub HoldsDesk : List Row → DeskWords → Type 0
+HoldsDesk rows desk = (first_of (codes "setup") rows ≡ Some desk.setup.now)
+    × (first_of (codes "store") rows ≡ Some desk.store.now)
+    × (first_of (codes "station") rows ≡ Some desk.station.now)
+    × (first_of (codes "day") rows ≡ text_of desk.day)
+    × (first_of (codes "log") rows ≡ text_of desk.log)
+    × (first_of (codes "labels") rows ≡ text_of desk.labels)
+    × (is_true (first_of (codes "bell") rows) ≡ desk.bell)
+
 -- The matches have these values for the moves that a count list asks for.
 abbrev pub HoldsAudit : List Row → AuditWords → Type 0
 HoldsAudit rows moves = (first_of (codes "setup") rows ≡ Some moves.setup.now)
@@ -182,15 +198,8 @@ IsChosen words (command.Serve setup store feeds) = IsNamed words (codes "serve")
     × (value serve.app words (codes "setup") ≡ Some setup.now)
     × (value serve.app words (codes "store") ≡ text_of store)
     × (values serve.app words (codes "feeds") ≡ texts_of feeds.items)
-IsChosen words (command.Desk setup store station day log labels bell) =
-    IsNamed words (codes "desk")
-    × (value desk.app words (codes "setup") ≡ Some setup.now)
-    × (value desk.app words (codes "store") ≡ Some store.now)
-    × (value desk.app words (codes "station") ≡ Some station.now)
-    × (value desk.app words (codes "day") ≡ text_of day)
-    × (value desk.app words (codes "log") ≡ text_of log)
-    × (value desk.app words (codes "labels") ≡ text_of labels)
-    × (is_given desk.app words (codes "bell") ≡ bell)
+IsChosen words (command.Desk own) = IsNamed words (codes "desk")
+    × HoldsDesk (matches_of desk.app words) own
     × (is_given desk.app words (codes "cards") ≡ false)
 IsChosen words command.Cards = IsNamed words (codes "desk")
     × (is_given desk.app words (codes "cards") ≡ true)

@@ -108,6 +108,20 @@ pub struct TableWords<'a> {
     pub table: &'a str,
 }
 
+/// The arguments of `desk`. `station` is the desk's own, and `day` the day of the first messages.
+/// The messages that are sent are appended to the file `log`. The file `labels` has the code of
+/// each label. With `bell`, an answer to a line that isn't done rings.
+#[derive(Clone, Copy)]
+pub struct DeskWords<'a> {
+    pub setup: &'a str,
+    pub store: &'a str,
+    pub station: &'a str,
+    pub day: Option<&'a str>,
+    pub log: Option<&'a str>,
+    pub labels: Option<&'a str>,
+    pub bell: bool,
+}
+
 /// The arguments of `audit`. `day` is the day of the moves, and `first` the number of the first. If
 /// `sealed`, a container that was seen vouches for its contents.
 #[derive(Clone, Copy)]
@@ -141,19 +155,8 @@ pub enum Chosen<'a> {
         store: Option<&'a str>,
         feeds: Vec<&'a str>,
     },
-    /// Takes lines at a desk of this station, as a person types them or a scanner reads them. `day`
-    /// is the day of the first messages. The messages that are sent are appended to the file `log`.
-    /// The file `labels` has the code of each label. With `bell`, an answer to a line that isn't
-    /// done rings.
-    Desk {
-        setup: &'a str,
-        store: &'a str,
-        station: &'a str,
-        day: Option<&'a str>,
-        log: Option<&'a str>,
-        labels: Option<&'a str>,
-        bell: bool,
-    },
+    /// Takes lines at a desk, as a person types them or a scanner reads them.
+    Desk(DeskWords<'a>),
     /// Prints the words of a desk's lines as cards to scan.
     Cards,
     /// Prints the rows of a table as lines of this station.
@@ -178,7 +181,7 @@ pub enum Chosen<'a> {
         station: &'a str,
         file: &'a str,
     },
-    /// Prints a line that moves each object of a count list to where it was seen.
+    /// Prints a line that moves each thing of a count list to where it was seen.
     Audit(AuditWords<'a>),
     /// Migrates a store of the previous version to this version.
     Migrate {

@@ -45,4 +45,6 @@ mod shapes;
 mod texts;
 pub mod words;
 
-pub use command::{Asked, AuditWords, Chosen, Entries, Format, Report, TableWords, WordsFault};
+pub use command::{
+    Asked, AuditWords, Chosen, DeskWords, Entries, Format, Report, TableWords, WordsFault,
+};

@@ -2,13 +2,16 @@
 //! nothing: `lines`, `check`, `gap`, `resend` and `audit`.
 #![tactic(auto, unfolding(crate::specs::Tables::app_by))]
 
-ghost use Rattle.std.specs.Prelude.{Some, codes};
+ghost use Rattle.std.specs.Prelude.{MatchResult, Some, codes};
+ghost use Rattle.clap.specs.Words.{found_of, rows_of};
 ghost use Rattle.command_words.specs.Commands as commands;
-ghost use Rattle.command_words.specs.Words.{Chooses, IsNamed, texts_of};
+ghost use Rattle.command_words.specs.Words.{Chooses, HoldsAudit, HoldsTable, IsMissing, IsNamed};
+ghost use Rattle.command_words.specs.Words.{texts_of};
 
 use crate::reading::{files_of, is_set, needed, one, read, record_of};
 use crate::shapes::Name;
 use crate::{AuditWords, Chosen, TableWords, WordsFault};
+use clap::ArgMatches;
 use std::alloc::Global;
 
 pub(crate) fn lines<'a>(alloc: Global, words: &'a [&'a str]) -> Result<Chosen<'a>, WordsFault>
@@ -16,34 +19,33 @@ pub(crate) fn lines<'a>(alloc: Global, words: &'a [&'a str]) -> Result<Chosen<'a
     ensures { Chooses (Some commands.lines) (texts_of words.now) result }
 {
     let matches = read(alloc, Name::Lines, words)?;
-    let files = files_of(&matches);
-    let station = one(&matches, "station");
-    let first = one(&matches, "first");
-    let kind = one(&matches, "kind");
-    let day = one(&matches, "day");
-    let place = one(&matches, "place");
-    let loan = one(&matches, "loan");
-    let by = one(&matches, "by");
-    let dates = one(&matches, "dates");
-    let labels = one(&matches, "labels");
-    let strict = is_set(&matches, "strict");
-    let table = one(&matches, "table");
+    let table = table_words(&matches);
     drop(matches);
-    Ok(Chosen::Lines(TableWords {
+    Ok(Chosen::Lines(table?))
+}
+
+/// The arguments of `lines`. Fault: Missing, exactly if one that is needed is missing.
+fn table_words<'a, 'b>(found: &'b ArgMatches<'a>) -> Result<TableWords<'a>, WordsFault>
+    ensures { MatchResult result
+        (HoldsTable (rows_of (found_of found.now)))
+        (IsMissing commands.lines.needed (rows_of (found_of found.now))) }
+{
+    let files = files_of(found);
+    Ok(TableWords {
         setup: needed(files.setup)?,
         store: files.store,
-        station: needed(station)?,
-        first,
-        kind,
-        day,
-        place,
-        loan,
-        by,
-        dates,
-        labels,
-        strict,
-        table: needed(table)?,
-    }))
+        station: needed(one(found, "station"))?,
+        first: one(found, "first"),
+        kind: one(found, "kind"),
+        day: one(found, "day"),
+        place: one(found, "place"),
+        loan: one(found, "loan"),
+        by: one(found, "by"),
+        dates: one(found, "dates"),
+        labels: one(found, "labels"),
+        strict: is_set(found, "strict"),
+        table: needed(one(found, "table"))?,
+    })
 }
 
 pub(crate) fn check<'a>(alloc: Global, words: &'a [&'a str]) -> Result<Chosen<'a>, WordsFault>
@@ -103,21 +105,25 @@ pub(crate) fn audit<'a>(alloc: Global, words: &'a [&'a str]) -> Result<Chosen<'a
     ensures { Chooses (Some commands.audit) (texts_of words.now) result }
 {
     let matches = read(alloc, Name::Audit, words)?;
-    let files = files_of(&matches);
-    let station = one(&matches, "station");
-    let day = one(&matches, "day");
-    let first = one(&matches, "first");
-    let sealed = is_set(&matches, "sealed");
-    let list = one(&matches, "list");
+    let moves = audit_words(&matches);
     drop(matches);
-    let record = record_of(files)?;
-    Ok(Chosen::Audit(AuditWords {
+    Ok(Chosen::Audit(moves?))
+}
+
+/// The arguments of `audit`. Fault: Missing, exactly if one that is needed is missing.
+fn audit_words<'a, 'b>(found: &'b ArgMatches<'a>) -> Result<AuditWords<'a>, WordsFault>
+    ensures { MatchResult result
+        (HoldsAudit (rows_of (found_of found.now)))
+        (IsMissing commands.audit.needed (rows_of (found_of found.now))) }
+{
+    let record = record_of(files_of(found))?;
+    Ok(AuditWords {
         setup: record.setup,
         store: record.store,
-        station: needed(station)?,
-        day: needed(day)?,
-        first,
-        sealed,
-        list: needed(list)?,
-    }))
+        station: needed(one(found, "station"))?,
+        day: needed(one(found, "day"))?,
+        first: one(found, "first"),
+        sealed: is_set(found, "sealed"),
+        list: needed(one(found, "list"))?,
+    })
 }

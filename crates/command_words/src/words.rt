@@ -1,11 +1,13 @@
 //! Reads the words of a command line, and returns the command that they choose.
 #![tactic(auto, unfolding(crate::specs::Tables::app_by))]
 
-ghost use Rattle.std.specs.Prelude.{◌≡◌, ◌∷◌, [], IfErr, IfOk, None, OnOk, Some, codes};
+ghost use Rattle.std.specs.Prelude.{◌≡◌, ◌∷◌, [], IfErr, IfOk, MatchResult, None, OnOk, Some};
+ghost use Rattle.std.specs.Prelude.{codes};
+ghost use Rattle.clap.specs.Words.{found_of, rows_of};
 ghost use Rattle.command_words.specs.Commands as commands;
 ghost use Rattle.command_words.specs.Tables.{form_by};
-ghost use Rattle.command_words.specs.Words.{Chooses, IsChosen, IsFault, IsNamed, form_named};
-ghost use Rattle.command_words.specs.Words.{refusals, texts_of};
+ghost use Rattle.command_words.specs.Words.{Chooses, HoldsDesk, IsChosen, IsFault, IsMissing};
+ghost use Rattle.command_words.specs.Words.{IsNamed, form_named, refusals, texts_of};
 
 use crate::preparation::{audit, check, gap, lines, resend};
 use crate::questions::{
@@ -15,7 +17,8 @@ use crate::reading::{all, files_of, is_set, needed, one, read, read_by, read_wor
 use crate::report_reading::{read_report, read_report_and, read_report_and_flag};
 use crate::sealing::{receipt, seal};
 use crate::shapes::{self, Name, find_command};
-use crate::{Asked, Chosen, WordsFault};
+use crate::{Asked, Chosen, DeskWords, WordsFault};
+use clap::ArgMatches;
 use std::alloc::{AllocError, Global};
 
 /// Returns the command that the words choose. They are the words after the program's name. The
@@ -116,26 +119,30 @@ fn desk<'a>(alloc: Global, words: &'a [&'a str]) -> Result<Chosen<'a>, WordsFaul
     ensures { Chooses (Some commands.desk) (texts_of words.now) result }
 {
     let matches = read(alloc, Name::Desk, words)?;
-    let files = files_of(&matches);
-    let station = one(&matches, "station");
-    let day = one(&matches, "day");
-    let log = one(&matches, "log");
-    let labels = one(&matches, "labels");
-    let bell = is_set(&matches, "bell");
     let cards = is_set(&matches, "cards");
+    let desk = desk_words(&matches);
     drop(matches);
     if cards {
         return Ok(Chosen::Cards);
     }
-    let record = record_of(files)?;
-    Ok(Chosen::Desk {
+    Ok(Chosen::Desk(desk?))
+}
+
+/// The arguments of `desk`. Fault: Missing, exactly if one that is needed is missing.
+fn desk_words<'a, 'b>(found: &'b ArgMatches<'a>) -> Result<DeskWords<'a>, WordsFault>
+    ensures { MatchResult result
+        (HoldsDesk (rows_of (found_of found.now)))
+        (IsMissing commands.desk.needed (rows_of (found_of found.now))) }
+{
+    let record = record_of(files_of(found))?;
+    Ok(DeskWords {
         setup: record.setup,
         store: record.store,
-        station: needed(station)?,
-        day,
-        log,
-        labels,
-        bell,
+        station: needed(one(found, "station"))?,
+        day: one(found, "day"),
+        log: one(found, "log"),
+        labels: one(found, "labels"),
+        bell: is_set(found, "bell"),
     })
 }
 

@@ -34,7 +34,7 @@ use Rattle.work_core.specs.declared.work.Work.{Work}
 abbrev pub store_of : Chosen → Option (List ℕ)
 store_of (Replay setup store progress strict why) = text_of store
 store_of (Serve setup store feeds) = text_of store
-store_of (Desk setup store station day log labels bell) = Some store.now
+store_of (Desk words) = Some words.store.now
 store_of Cards = None
 store_of (Lines words) = text_of words.store
 store_of (Check setup counts lines) = None

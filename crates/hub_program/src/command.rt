@@ -6,7 +6,7 @@ ghost use Rattle.hub_program.specs.Places.{kept_in, path_of, store_of};
 use crate::auditing::audit_list;
 use crate::checking::check_files;
 use crate::copying::copied;
-use crate::desk::{DeskWords, at_desk};
+use crate::desk::at_desk;
 use crate::desk_files::no_log;
 use crate::ending::{Ending, noted_status, refuse, status};
 use crate::explain::explain;
@@ -139,25 +139,8 @@ fn perform<
             output,
             notes,
         ),
-        Chosen::Desk {
-            setup,
-            store,
-            station,
-            day,
-            log,
-            labels,
-            bell,
-        } => {
-            let wanted = DeskWords {
-                setup,
-                store,
-                station,
-                day: *day,
-                log: *log,
-                labels: *labels,
-                bell: *bell,
-            };
-            at_desk(rt, threads, wanted, start, input, output, errors, notes)
+        Chosen::Desk(wanted) => {
+            at_desk(rt, threads, *wanted, start, input, output, errors, notes)
         }
         Chosen::Cards => {
             write_line(output, DESK_CARDS)?;

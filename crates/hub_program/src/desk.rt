@@ -13,6 +13,7 @@ use crate::station::station_of;
 use crate::store::{Begins, open};
 use crate::work::{announce_new, over_store};
 use codes_core::Day;
+use command_words::DeskWords;
 use desk_core::Bench;
 use help_texts::DESK_HELP;
 use hub_core::Tally;
@@ -24,18 +25,6 @@ use std::io::{BufRead, Write};
 use std::sync::Wait;
 use std::thread::Threads;
 use work_core::Work;
-
-/// The arguments of a desk.
-#[derive(Clone, Copy)]
-pub struct DeskWords<'a> {
-    pub setup: &'a str,
-    pub store: &'a str,
-    pub station: &'a str,
-    pub day: Option<&'a str>,
-    pub log: Option<&'a str>,
-    pub labels: Option<&'a str>,
-    pub bell: bool,
-}
 
 /// Takes the lines of the input at a desk, and writes the answers to the output. The note about a
 /// new store goes to `errors` before the first line is read.

@@ -4,9 +4,9 @@ ghost use Rattle.label_core.specs.LabelRows.{label_fault, labels_of};
 ghost use Rattle.sheet_core.specs.Sheets.{sheet_rows};
 
 use crate::advice::{on_labels, on_log, on_sheet, on_taken_log};
-use crate::desk::DeskWords;
 use crate::fault::{CommandFault, SheetFile};
 use crate::files::{are_same, read_file};
+use command_words::DeskWords;
 use label_core::{LabelFault, Labels};
 use nest_core::Setup;
 use sheet_core::{SheetFault, read_sheet};
