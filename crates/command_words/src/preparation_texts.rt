@@ -105,15 +105,15 @@ station NAME.",
 };
 
 pub(crate) const AUDIT: Help = Help {
-    about: "Prints a line that moves each object of a count to where it was seen",
+    about: "Prints a line that moves each thing of a count to where it was seen",
     usage: "pairsalder audit --setup PATH --store PATH --station NAME --day DAY\n       [--first N] [--sealed] LIST",
     more: "\
 For the work after a count: the moves that bring the record up to date. Posts
-nothing: look at each object again, then send the lines with 'replay'.
+nothing: look at each thing again, then send the lines with 'replay'.
 
-LIST is a count list, as for 'pairsalder count'. Prints a move for each object
+LIST is a count list, as for 'pairsalder count'. Prints a move for each thing
 that the list has at another place than the record. The lines are numbered from
---first, or from the station's next number. An object that the record has in a
+--first, or from the station's next number. A thing that the record has in a
 container is not moved; a note names it. Each missing object is a note, too,
 with its place and its container on record. With --sealed, what is in a
 container that was seen isn't missing.

@@ -218,11 +218,11 @@ pub(crate) const EXPLAIN: Help = Help {
     about: "Explains a word of a reply, a report or a fault, and what to do about it",
     usage: "pairsalder explain NAME",
     more: "\
-For anyone who reads a reply: NAME is a word of a reply, a report or a fault,
-for example Double, held, Away or memory. Case is ignored. The names of columns
-are not explained.
+For anyone who reads a reply: NAME is a word of a reply, a report or a fault, or
+the name of a column, for example Double, held, memory or days_left. Case is
+ignored.
 
-Prints three or four lines: what the word means, its usual cause, and what to
+Prints three to five lines: what the word means, its usual cause, and what to
 do. For an unknown word, a help: line suggests a similar one.
 
 Example:

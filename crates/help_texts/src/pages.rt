@@ -78,10 +78,10 @@ The messages, each with all its keys:
   {\"kind\":\"signoff\",\"by\":\"Ann\"}
       signs the station off for good. Don't send it at the end of a shift.
 
-If a message is lost, its number blocks the station. Send under that number a
-message about a thing that the setup does not list: a move, pack, exit, return
-or receive. It is recorded as UnknownThing and changes nothing. The messages
-held after it can then be sent again:
+If a message is lost, its number blocks the station. 'pairsalder gap' prints a
+line that fills the number and changes nothing. So does a message about a thing
+that the setup does not list: a move, pack, exit, return or receive. It is
+recorded as UnknownThing. The messages held after it can then be sent again:
 
   {\"kind\":\"move\",\"thing\":\"C999999\",\"place\":\"S1\",\"day\":\"2024-05-01\"}
 

@@ -73,17 +73,28 @@ impl<'a, C: Clock, E: Write> Progress<'a, C, E> {
         ensures { self.new.tally ≡ self.old.tally }
     {
         let (tally, errors) = (self.tally, &mut self.errors);
-        write!(errors, "{} lines", tally.lines())?;
+        write!(errors, "{} line{}", tally.lines(), plural(tally.lines()))?;
         write_verdicts(errors, &tally)?;
         write!(errors, ", {} held", tally.held())?;
         write_refusals(errors, &tally)?;
-        write!(errors, ", {} bad, {} questions", tally.bad(), tally.asked())?;
+        let asked = tally.asked();
+        write!(
+            errors,
+            ", {} bad, {asked} question{}",
+            tally.bad(),
+            plural(asked)
+        )?;
         if let (Some(began), Some(now)) = (self.began, now) {
             let rate = a_second(tally.lines(), now.duration_since(began));
             write!(errors, ", {rate} lines a second")?;
         }
         writeln!(errors)
     }
+}
+
+/// The end of a word of which there are this many.
+fn plural(count: u64) -> &'static str {
+    if count == 1 { "" } else { "s" }
 }
 
 /// The count for each second of this time.
