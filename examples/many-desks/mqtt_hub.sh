@@ -13,5 +13,7 @@ mosquitto_sub -L "$topic" -q 1 -c -i "$client" >> "$journal" &
 receiver=$!
 trap 'kill "$receiver" 2> /dev/null || :' EXIT
 trap 'exit 1' INT TERM
-# held messages are not in the store, so the hub reads the journal from its first line; it ends with its receiver
-tail --pid="$receiver" -n +1 -f "$journal" | pairsalder replay --setup "$setup" --store "$store"
+# Held messages are not in the store, so the hub reads the journal from its first line; it ends with its receiver. The
+# shell waits for it in the background: TERM is then handled at once.
+tail --pid="$receiver" -n +1 -f "$journal" | pairsalder replay --setup "$setup" --store "$store" &
+wait $!

@@ -241,7 +241,7 @@ def mosquitto(room):
 
 def test_scanners(room, messages=100):
     """Messages over MQTT come twice and out of order, and the hub is killed and comes back: it ends
-    with the whole record."""
+    with the whole record. TERM ends it at once."""
     room.need("mosquitto", "mosquitto_pub", "mosquitto_sub", messages=messages)
     topic = mosquitto(room)
     words = ["mqtt_hub.sh", topic, "hub-1", "journal.jsonl", "museum.csv", "one.db"]
@@ -259,7 +259,7 @@ def test_scanners(room, messages=100):
     room.stop(hub)
     late = [room.script("mqtt_send.sh", topic, room.feed("GALLERY"), log="GALLERY.txt")]
     good = sent(first + late)
-    room.script(*words, log="one.again.txt")
+    again = room.script(*words, log="one.again.txt")
     until(lambda: "GALLERY" in room.text("one.again.txt"), "the messages that the broker kept")
     # what the killed hub had taken from the broker, but not kept, comes with the files once more
     good &= sent(
@@ -267,6 +267,8 @@ def test_scanners(room, messages=100):
     )
     good &= sent([room.script("mqtt_send.sh", topic, room.question("STORE"), log="ask.txt")])
     until(lambda: "STORE ask " in room.text("one.again.txt"), "all messages")
+    again.terminate()
+    good &= again.wait(PATIENCE) == 1
     room.end()
     words = ["pairsalder", "replay", "-s", "museum.csv", "-d", "two.db"]
     room.start(*words, log="two.txt", given="journal.jsonl").wait(PATIENCE)
