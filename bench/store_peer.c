@@ -1,5 +1,5 @@
 /* Posts as the program does, over stock SQLite: each posting with its spots in one transaction, by statements that are
-   prepared once, in WAL, synchronous FULL.   store_peer FILE POSTS SPOTS */
+   prepared once, in WAL, synchronous FULL, with pages of 2,048 bytes.   store_peer FILE POSTS SPOTS */
 #include <sqlite3.h>
 #include <stdio.h>
 #include <stdlib.h>
@@ -28,7 +28,7 @@ int main(int count, char **words) {
     if (count != 4) return 2;
     int posts = atoi(words[2]), spots = atoi(words[3]);
     must(sqlite3_open(words[1], &db), SQLITE_OK);
-    must(sqlite3_exec(db, "PRAGMA journal_mode=WAL; PRAGMA synchronous=FULL;"
+    must(sqlite3_exec(db, "PRAGMA page_size=2048; PRAGMA journal_mode=WAL; PRAGMA synchronous=FULL;"
         "CREATE TABLE posting (id INTEGER PRIMARY KEY, station INTEGER NOT NULL, n INTEGER NOT NULL, body TEXT NOT NULL,"
         " verdict INTEGER NOT NULL, UNIQUE (station, n)) STRICT;"
         "CREATE TABLE spot (thing INTEGER, k INTEGER, entry INTEGER NOT NULL, place INTEGER NOT NULL, day INTEGER NOT NULL,"
