@@ -7,8 +7,8 @@ from common.museum import MuseumRoom, move, pack, scan
 
 ROOM = MuseumRoom
 LINE = re.compile(
-    r"(\d+) lines, (\d+) posted, (\d+) not applied(?: \(([^)]*)\))?, (\d+) held, (\d+) refused(?: \(([^)]*)\))?, "
-    r"(\d+) bad, (\d+) questions, (\d+) lines a second"
+    r"(\d+) lines?, (\d+) posted, (\d+) not applied(?: \(([^)]*)\))?, (\d+) held, (\d+) refused(?: \(([^)]*)\))?, "
+    r"(\d+) bad, (\d+) questions?, (\d+) lines a second"
 )
 
 
@@ -43,6 +43,7 @@ def test_counts(room):
         told[:2] == plain[:2]
         and plain[2] == ""
         and counts == ("12", "6", "3", "UnknownPlace 2, Cycle 1", "1", "4", refused, "1", "1")
+        and " 1 question, " in told[2]
     )
 
 
