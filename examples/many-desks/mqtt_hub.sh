@@ -11,9 +11,9 @@ touch "$journal"
 [ -z "$(tail -c 1 "$journal")" ] || echo >> "$journal"
 mosquitto_sub -L "$topic" -q 1 -c -i "$client" >> "$journal" &
 receiver=$!
-trap 'kill "$receiver" 2> /dev/null || :' EXIT
+trap 'kill "$receiver" 2> /dev/null || :; wait' EXIT
 trap 'exit 1' INT TERM
-# Held messages are not in the store, so the hub reads the journal from its first line; it ends with its receiver. The
-# shell waits for it in the background: TERM is then handled at once.
+# Held messages are not in the store, so the hub reads the journal from its first line; it ends with its receiver. It runs
+# in the background, because the shell would put off TERM until a command in the foreground ends.
 tail --pid="$receiver" -n +1 -f "$journal" | pairsalder replay --setup "$setup" --store "$store" &
 wait $!

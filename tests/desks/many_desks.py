@@ -241,7 +241,7 @@ def mosquitto(room):
 
 def test_scanners(room, messages=100):
     """Messages over MQTT come twice and out of order, and the hub is killed and comes back: it ends
-    with the whole record. TERM ends it at once."""
+    with the whole record. If it gets TERM, it closes the store and ends."""
     room.need("mosquitto", "mosquitto_pub", "mosquitto_sub", messages=messages)
     topic = mosquitto(room)
     words = ["mqtt_hub.sh", topic, "hub-1", "journal.jsonl", "museum.csv", "one.db"]
