@@ -92,7 +92,7 @@ impl<'a, C: Clock, E: Write> Progress<'a, C, E> {
     }
 }
 
-/// The end of a word of which there are this many.
+/// The ending of a noun after this count: `s`, unless the count is 1.
 fn plural(count: u64) -> &'static str {
     if count == 1 { "" } else { "s" }
 }
