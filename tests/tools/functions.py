@@ -68,7 +68,7 @@ class Function:
         self.path = [*module, *([inside.name] if inside else []), self.name]
         # the cycle of calls that it names, whose functions have one folder of proofs
         named = re.search(r"#\[cycle\((\w+)\)\]", "\n".join(lines[at : self.body]))
-        self.is_in_cycle, self.cycle = bool(named), named[1] if named else self.name
+        self.cycle = named[1] if named else self.name
         self.recurs = os.path.isdir(
             f"{crate.folder}/proofs/{'/'.join(self.path[:-1])}/+{self.cycle}"
         )

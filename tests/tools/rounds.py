@@ -25,6 +25,7 @@ requirements of the functions that it calls. An edit that isn't refused so is tr
 the whole contract, and reported as refused by another clause.
 """
 import collections
+import contextlib
 import glob
 import os
 import re
@@ -43,6 +44,7 @@ LACKS = "only because a proof file names what the edit took away: "
 ANSWER = "\n\npub {0} : goal.{0}\n{0} c = search rules\n"
 RULES = "use Rattle.std.proofs.Common.{rules}\n"
 HAS_RULES = re.compile(r"(?m)^use Rattle[.]std[.]proofs[.]Common[.]\{[^}]*\brules\b")
+CYCLE = re.compile(r"(?m)^ *#\[cycle\(\w+\)\]$")
 # an answer of the wrong type: the prover prints no advice on the goals of a function that has one
 NO_ADVICE = "\n\nno-advice : Type 0\nno-advice = Type 0\n"
 
@@ -86,12 +88,13 @@ def with_spans(text, spans):
 
 
 def without_bodies(text, functions):
-    """The text with nothing in the bodies of these functions, and each line in its place. What
-    recurs still calls itself."""
+    """The text with nothing in the bodies of these functions, and each line in its place. None calls
+    itself then, or is in a cycle of calls."""
     lines = text.split("\n")
     for it in functions:
-        if it.last - it.body > 1 and not it.recurs:
+        if it.last - it.body > 1:
             lines[it.body + 1 : it.last] = ["unreachable!()"] + [""] * (it.last - it.body - 2)
+        lines[it.first : it.body] = [CYCLE.sub("", line) for line in lines[it.first : it.body]]
     return "\n".join(lines)
 
 
@@ -139,7 +142,7 @@ def copied(crate, room, edit, text):
     name = f"{function.name}_wrong_{edit.number}"
     contract = "\n".join(lines[function.first : function.body])
     contract = with_clauses(contract, edit.clauses) if edit.clauses else contract
-    contract = re.sub(r"(?m)^ *#\[cycle\(\w+\)\]$", "", contract)  # a copy is in none
+    contract = CYCLE.sub("", contract)  # a copy is in none
     contract = untried(contract) if edit.goals else contract
     body = "\n".join([contract, *lines[function.body : function.last + 1]])
     body = re.sub(rf"\bfn {function.name}\b", f"fn {name}", body, count=1)
@@ -173,7 +176,8 @@ def lay_out(crate, room, group, known, has_holes, is_short):
             shutil.copytree(f"{crate.folder}/{part}", f"{room}/{part}")
     stands = {}
     edited = [it for edit in group if not edit.number for it in edit.functions]
-    bare = [it for it in known if has_holes and it not in edited and not it.is_in_cycle]
+    whole = {it.proofs() for it in edited}  # a cycle of calls has one folder of proofs
+    bare = [it for it in known if has_holes and it.proofs() not in whole]
     # without its `main` a program is a library, for which no code of the crates below is read
     main = [it for it in bare if crate.is_program and it.path == ["main"]]
     for path in {it.file for it in bare} | {span[0] for it in group for span in it.spans}:
@@ -198,7 +202,7 @@ def lay_out(crate, room, group, known, has_holes, is_short):
     for function in main:
         shutil.rmtree(f"{room}/proofs/{function.proofs()}", ignore_errors=True)
     for function in [it for it in bare if it not in main]:
-        leave_a_hole(crate, f"{room}/proofs/{function.proofs()}", function)
+        leave_a_hole(crate, room, function)
     for edit, places in stands.items() if is_short else ():
         # in a copy no tactic tries the others, so one that fails is enough
         goals = edit.goals[:1] if edit.number else edit.goals
@@ -221,16 +225,17 @@ def answer(crate, folder, proofs, goals):
     write(file, text + NO_ADVICE)
 
 
-def leave_a_hole(crate, folder, function):
-    for file in ("Answers", "Invariants"):
-        if os.path.exists(f"{folder}/{file}.antt"):
-            os.remove(f"{folder}/{file}.antt")
-    module = function.proofs().replace("/", ".") + ("" if function.recurs else ".Statement")
-    name = "+" * function.recurs + function.name
-    head = f"use Rattle.{crate.name}.proofs.{module}.{{statement}}\n\n"
+def leave_a_hole(crate, room, function):
+    """Puts a hole in place of the function's proofs."""
+    for file in ("Answers", "Invariants", "Proof"):
+        with contextlib.suppress(FileNotFoundError):
+            os.remove(f"{room}/proofs/{function.proofs()}/{file}.antt")
+    path = "/".join(function.path)
+    head = f"use Rattle.{crate.name}.proofs.{path.replace('/', '.')}.Statement.{{statement}}\n\n"
     write(
-        f"{folder}/Proof.antt",
-        f"{head}pub {name}_spec : {{M : Type 1}} → statement M\n{name}_spec = absurd ?\n",
+        f"{room}/proofs/{path}/Proof.antt",
+        f"{head}pub {function.name}_spec : {{M : Type 1}} → statement M\n"
+        f"{function.name}_spec = absurd ?\n",
     )
 
 
