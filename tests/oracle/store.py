@@ -64,11 +64,12 @@ def setup_rows(museum, normal):
 def spots(museum, posted):
     """For each thing a row for each entry after which its place differs from the one before."""
     places, rows = list(museum.inside), []
+    puts = [targets(posted[:i]) for i in range(len(posted) + 1)]
     for number, thing in enumerate(museum.things):
         k = 0
         for i, entry in enumerate(posted):
-            at = place(targets(posted[: i + 1]), thing)
-            if at != place(targets(posted[:i]), thing):
+            at = place(puts[i + 1], thing)
+            if at != place(puts[i], thing):
                 k += 1
                 rows.append((number, k, i + 1, places.index(at), day_number(entry.message["day"])))
     return rows

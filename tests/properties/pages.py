@@ -1,6 +1,8 @@
 """A page of a record is well-formed, and has each thing once, where the reports have it."""
 import collections
+import html
 import html.parser
+import json
 import re
 import shutil
 import subprocess
@@ -8,26 +10,41 @@ import subprocess
 from common.museum import MuseumRoom
 from common.room import Skipped, same
 from oracle import streams
-from oracle.book import chain
+from oracle.book import chain, is_container
 from oracle.reports import Record
+from oracle.store import loans, spots
 from properties.reports import json_lines
 
 ROOM = MuseumRoom
 
 VOID = {"meta", "input"}
+PLACES = [line.split(",")[1] for line in streams.SETUP.splitlines() if line.startswith("place,")]
 MOST = 200  # entries that a page lists
-# what a reader does who looks for an object, and clicks on what was found first. Its place, its
-# name, and the name in the tree at which the page is then, become the title
+PYTHON = "/usr/bin/python3"  # Debian's, which has html5lib if it is installed
+ERRORS = """
+import html5lib, sys
+parser = html5lib.HTMLParser()
+parser.parse(sys.stdin.buffer.read())
+print(parser.errors)
+"""
+# what a reader does who looks for an object, and clicks on what was found first. What the page shows
+# then becomes its title: the object's places and containers, its name, the line in the tree at which
+# the page is, with the object's locations, and the loans on the time line
 SEARCH = """<script>
-var box = document.getElementById('find');
 box.value = 'SOUGHT';
 box.dispatchEvent(new Event('input'));
 var [button, place] = document.querySelector('#found li').children;
 button.click();
 var here = document.activeElement;
-document.title = [place, button, here.checkVisibility() && here].map(function (node) {
-  return node.textContent.trim();
-}).join(' / ');
+document.title = JSON.stringify([
+  place.textContent.split(' / '),
+  button.textContent,
+  here.checkVisibility() && nameOf(here),
+  Array.from(here.querySelectorAll('td'), function (cell) { return cell.textContent; }),
+  Array.from(document.querySelectorAll('#times title'), function (loan) {
+    return loan.textContent;
+  })
+]);
 </script>
 </body>"""
 
@@ -39,6 +56,7 @@ class Page(html.parser.HTMLParser):
     def __init__(self, text):
         super().__init__()
         self.open, self.wrong, self.nodes, self.texts, self.section = [], [], [], [], ""
+        self.scripts = []
         self.trees, self.rows = collections.defaultdict(list), collections.defaultdict(list)
         self.feed(text)
         self.close()
@@ -63,6 +81,9 @@ class Page(html.parser.HTMLParser):
         text = data.strip()
         if not self.open or not text:
             return
+        if self.open[-1] == "script":
+            self.scripts.append(text)
+            return
         self.texts.append((self.open[-1], text))
         if self.open[-1] == "h2":
             self.section = text
@@ -76,6 +97,10 @@ class Page(html.parser.HTMLParser):
         """The museum in numbers: each name with its number."""
         names, found = ([text for tag, text in self.texts if tag == it] for it in ("dt", "dd"))
         return dict(zip(names, found))
+
+    def locations(self):
+        """The locations of each thing, as the script reads them."""
+        return json.loads(self.scripts[0])[:-1]
 
     def table(self, section):
         """The rows of a table without its heading."""
@@ -98,21 +123,51 @@ def loan_rows(record, day):
         yield [*values[:6], values[7], "overdue" if values[0] in late else ""]
 
 
+def object_rows(record):
+    """The rows of the objects of each loan."""
+    for loan in loans(record.posted):
+        for thing, found in record.stages(loan):
+            yield [loan, thing, found]
+
+
+def location_rows(record):
+    """Each thing's locations."""
+    things, places = record.museum.things, list(record.museum.inside)
+    for thing, _, entry, at, _ in sorted(spots(record.museum, record.posted)):
+        yield [things[thing], entry, record.posted[entry - 1].message["day"], places[at]]
+
+
+def number_rows(record, day):
+    """The museum in numbers."""
+    things, states = record.museum.things, [record.state(loan) for loan in loans(record.posted)]
+    containers = sum(map(is_container, things))
+    yield "Places", len(record.museum.inside)
+    yield "Containers", containers
+    yield "Objects", len(things) - containers
+    yield "Loans", len(states)
+    yield "Open loans", len(states) - states.count("Closed")
+    yield "Last entry", len(record.posted)
+    if day:
+        yield "Overdue on", day
+
+
 def station_rows(printed):
     """The rows of the stations, by what the command of that name prints."""
     return [line.replace(" next ", " ").split(" ", 1) for line in printed.splitlines()]
 
 
 def is_page(text, record, day, stations):
-    """Whether the page is well-formed, and has the record's things, loans, objects away, stations
-    and last entries."""
+    """Whether the page is well-formed, and has the record's numbers, things, locations, loans with
+    their objects, objects away, stations and last entries."""
     page = Page(text)
     good = same((page.open, page.wrong), ([], []))
-    good &= same(page.numbers().get("Last entry"), str(len(record.posted)))
+    good &= same(page.numbers(), {name: str(it) for name, it in number_rows(record, day)})
+    good &= same(page.locations(), list(location_rows(record)))
     things = [nodes for nodes in page.trees[""] if len(nodes) > 1]
     good &= same(sorted(things), sorted(nodes_of(record, True)))
     good &= same(sorted(page.trees["Not placed"]), sorted(nodes_of(record, False)))
     good &= same(page.table("Loans in and loans out"), list(loan_rows(record, day)))
+    good &= same(page.table("Objects of each loan"), list(object_rows(record)))
     good &= same(page.table("Away from the normal location"), record.away_values())
     good &= same(page.table("Stations"), stations)
     entries = [line.split()[:4] for line in record.entries()[-MOST:]]
@@ -138,6 +193,20 @@ def test_pages(room, rounds=20):
     return good
 
 
+def test_checker(room):
+    """html5lib, which finds each error in a page of HTML, finds none."""
+    if subprocess.run([PYTHON, "-c", "import html5lib"], capture_output=True, check=False).returncode:
+        raise Skipped("python3-html5lib is not installed")
+    room.write("setup.csv", streams.SETUP)
+    words = ["--setup", "setup.csv", "--store", "museum.db"]
+    room.run("replay", *words, given=json_lines(3))
+    page = room.printed("page", *words, "--on", "2024-06-30")
+    found = subprocess.run(
+        [PYTHON, "-c", ERRORS], input=page, capture_output=True, text=True, check=True
+    )
+    return same(found.stdout, "[]\n")
+
+
 def browsed(room, text):
     """What a browser has of a page after its scripts, and what it writes to its console."""
     browser = shutil.which("chromium")
@@ -156,16 +225,30 @@ def browsed(room, text):
     return ended.stdout.decode(), console
 
 
+def in_places(nodes):
+    """The nodes of the tree in a browser, where a place is in the places that it lies in."""
+    place, *inside = nodes
+    above = [other for other in PLACES if place.startswith(f"{other}-")]
+    return [*above, place, *inside]
+
+
 def test_browser(room):
-    """In a browser a page loads without an error, and a search finds an object, with what it is in,
-    and leads to its line."""
+    """In a browser a page loads without an error. A search finds an object, with what it is in, and
+    leads to its line and its locations. The time line has the open loans."""
     number = 3
     record = Record.of(streams.SETUP, json_lines(number))
     room.write("setup.csv", streams.SETUP)
     words = ["--setup", "setup.csv", "--store", "museum.db"]
     room.run("replay", *words, given=json_lines(number))
-    page = room.printed("page", *words)
+    page = room.printed("page", *words, "--on", "2024-06-30")
     sought = next(nodes for nodes in nodes_of(record, True) if len(nodes) > 2)
     shown, console = browsed(room, page.replace("</body>", SEARCH.replace("SOUGHT", sought[-1])))
     title = re.search(r"<title>(.*?)</title>", shown)
-    return same(console, []) & same(title and title[1].split(" / "), [*sought, sought[-1]])
+    cells = [str(it) for row in location_rows(record) if row[0] == sought[-1] for it in row[1:]]
+    drawn = [
+        " ".join([*row[:5], *["overdue"] * bool(row[7])])
+        for row in loan_rows(record, "2024-06-30")
+        if row[1] != "Closed"
+    ]
+    good = [in_places(sought[:-1]), sought[-1], sought[-1], cells, drawn]
+    return same(console, []) & same(title and json.loads(html.unescape(title[1])), good)

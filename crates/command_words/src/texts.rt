@@ -157,10 +157,10 @@ For anyone who wants to look at the record and doesn't have the program. The
 page is one file of HTML. Any browser shows it, also offline, and prints it.
 
 The page has the museum in numbers, and then each place with the containers and
-the objects at it. Click a place or a container to open it, or type part of a
-code into the search box. Then come the loans; with --on, those that are overdue
-on DAY are marked. With --upto, the page shows the record as it was after entry
-N.
+the objects at it. Click a place or a container to open it, and a thing to see
+where it has been, or type part of a code into the search box. Then come the
+loans, with their objects and a time line; with --on, those that are overdue on
+DAY are marked. With --upto, the page shows the record as it was after entry N.
 
 Example:
   pairsalder page --setup museum.csv --store museum.db > museum.html

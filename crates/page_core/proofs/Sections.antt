@@ -1,13 +1,16 @@
 -- The text of a section, and of one after another.
-use Rattle.std.proofs.Common.{◌≡◌, ◌∙◌, ℕ, ◌++◌, ◌∷◌, [], List, ap, map}
-use Rattle.std.proofs.Common.{refl, sym}
+use Rattle.std.proofs.Common.{◌≡◌, ◌∙◌, ℕ, ◌++◌, ◌∷◌, [], List, Option, Result, ap, map}
+use Rattle.std.proofs.Common.{refl, subst, sym}
+use Rattle.std.specs.Io.KnownBytes.{Appends}
 use Rattle.std.specs.List.{flat_map}
 use Rattle.std.proofs.lemmas.Grind.{flat_map-append}
 use Rattle.std.proofs.lemmas.List.{append-nil}
 use Rattle.html_texts.specs.Pieces.{Piece, page_text, piece_text}
 use Rattle.html_texts.specs.Pieces.Piece.{markup}
 use Rattle.page_core.specs.Pages.{section}
-use Rattle.page_core.specs.Writes.{rows_text}
+use Rattle.reports.specs.declared.fault.PrintFault.{PrintFault}
+use Rattle.page_core.specs.Writes.{Stops, Writes, rows_text}
+use Rattle.page_core.proofs.WrittenText.{stops_longer, stops_within, writes_after}
 
 rows-text : (rows : List (List Piece))
     → page_text (flat_map (λ row. row) rows) ≡ rows_text (map page_text rows)
@@ -43,10 +46,39 @@ section-texts before after row xs =
     ap (λ ts. before ++ (rows_text ts ++ after)) (sym (texts-of row xs))
     ∙ sym (section-text before (map row xs) after)
 
--- One section after another, and the end.
-pub one_before : (one other : List Piece) (t : List ℕ) → page_text other ≡ t
-    → page_text (one ++ other) ≡ page_text one ++ t
-one_before one other t e = sections-text one other ∙ ap (λ u. page_text one ++ u) e
+-- The text of rows in rows.
+pub rows_within : {X : Type 0} (row : X → List Piece) (xs : List X)
+    → page_text (flat_map row xs) ≡ flat_map (λ x. page_text (row x)) xs
+rows_within row [] = refl
+rows_within row (x ∷ xs) =
+    flat_map-append piece_text (row x) (flat_map row xs)
+    ∙ ap (λ t. page_text (row x) ++ t) (rows_within row xs)
 
+-- The end of the page.
 pub end-text : (m : List ℕ) → page_text (markup m ∷ []) ≡ m
 end-text m = append-nil m
+
+-- Sections that are written one after another.
+
+-- the first fails
+pub first_fails : (a b : Option (List ℕ)) (one rest : List Piece)
+    → Stops a b (page_text one) → Stops a b (page_text (one ++ rest))
+first_fails a b one rest p =
+    subst (Stops a b) (sym (sections-text one rest))
+    (stops_longer a b (page_text one) (page_text rest) p)
+
+-- a later one fails
+pub later_fails : (a b c : Option (List ℕ)) (one rest : List Piece)
+    → Appends a b (page_text one) → Stops b c (page_text rest)
+    → Stops a c (page_text (one ++ rest))
+later_fails a b c one rest p q =
+    subst (Stops a c) (sym (sections-text one rest))
+    (stops_within a b c (page_text one) (page_text rest) p q)
+
+-- the first is written
+pub then_rest : (a b c : Option (List ℕ)) (r : Result Unit PrintFault) (one rest : List Piece)
+    → Appends a b (page_text one) → Writes b c r (page_text rest)
+    → Writes a c r (page_text (one ++ rest))
+then_rest a b c r one rest p q =
+    subst (Writes a c r) (sym (sections-text one rest))
+    (writes_after a b c r (page_text one) (page_text rest) p q)

@@ -1,6 +1,6 @@
 -- The tables computed on a small record: a loan of two objects, until 2024-05-31. The first object
 -- has left.
-use Rattle.std.specs.Prelude.{◌≡◌, ◌∷◌, [], List, None, Some, codes, map, pos, refl, true}
+use Rattle.std.specs.Prelude.{◌≡◌, ◌++◌, ◌∷◌, [], List, None, Some, codes, map, pos, refl, true}
 use Rattle.std.specs.Prelude.{false}
 use Rattle.std.specs.Fmt.{digits}
 use Rattle.codes_core.specs.Day.{day_text}
@@ -11,7 +11,9 @@ use Rattle.html_texts.specs.Pieces.{Piece, page_text}
 use Rattle.reports.specs.Cells.{Cell, nothing, number, text}
 use Rattle.page_core.specs.Away.{away_rows}
 use Rattle.page_core.specs.Entries.{entry_rows}
+use Rattle.page_core.specs.LoanObjects.{object_rows}
 use Rattle.page_core.specs.Loans.{loan_rows}
+use Rattle.page_core.specs.Numbers.{open_loans}
 use Rattle.page_core.specs.Stations.{next_cell, station_rows}
 use Rattle.page_core.specs.Values.{values_row}
 
@@ -43,6 +45,14 @@ lent-in_time = refl
 
 lent-without_a_day : loan_rows (book lent) None ≡ lent_row nothing ∷ []
 lent-without_a_day = refl
+
+lent-objects : map page_text (object_rows (book lent))
+    ≡ (codes "<tr><td>LO2024.1</td><td>2001.4.1</td><td>Away</td></tr>\n"
+    ++ codes "<tr><td>LO2024.1</td><td>2001.4.2</td><td>Awaiting</td></tr>\n") ∷ []
+lent-objects = refl
+
+lent-open : open_loans (book lent) ≡ 1
+lent-open = refl
 
 lent-away : map page_text (away_rows (book lent))
     ≡ codes "<tr><td>2001.4.1</td><td>MUSEUM-X</td><td>S1-A</td></tr>\n"

@@ -1,6 +1,8 @@
 pub mod Away
 pub mod Entries
+pub mod Histories
 pub mod Listed
+pub mod LoanObjects
 pub mod Loans
 pub mod Numbers
 pub mod Pages

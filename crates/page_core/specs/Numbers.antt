@@ -1,28 +1,53 @@
 -- Defines the museum in numbers.
-use Rattle.std.specs.Prelude.{◌∷◌, ◌++◌, [], List, codes, length}
-use Rattle.nest_core.specs.Museum.{Museum}
+use Rattle.std.specs.Prelude.{◌∷◌, ◌++◌, ◌-◌, [], ℕ, ℤ, List, None, Option, Some, codes, filter}
+use Rattle.std.specs.Prelude.{length, not}
+use Rattle.std.specs.List.{range_with_len}
+use Rattle.codes_core.specs.Day.{day_text}
+use Rattle.nest_core.specs.Museum.{Museum, is_container}
 use Rattle.posting_core.specs.Book.{Book, loans_in}
+use Rattle.reports.specs.LoanLists.{is_open}
 use Rattle.html_texts.specs.Pieces.{Piece}
-use Rattle.html_texts.specs.Pieces.Piece.{markup, number}
+use Rattle.html_texts.specs.Pieces.Piece.{markup, number, text}
 
--- How many places and things the setup has.
+-- The number of objects in the setup. Its other things are containers.
+abbrev pub objects_in : Museum → ℕ
+objects_in S =
+    length (filter (λ x. not (is_container S x)) (range_with_len 0 (length S.things)))
+
+-- The number of loans that are not closed.
+abbrev pub open_loans : Book → ℕ
+open_loans B = length (filter (is_open B) (loans_in B))
+
+-- How many places, containers and objects the setup has.
 abbrev pub setup_row : Museum → List Piece
 setup_row S =
     markup (codes "<div><dt>Places</dt><dd>")
     ∷ number (length S.places)
-    ∷ markup (codes "</dd></div>\n<div><dt>Things</dt><dd>")
-    ∷ number (length S.things)
+    ∷ markup (codes "</dd></div>\n<div><dt>Containers</dt><dd>")
+    ∷ number (length S.things - objects_in S)
+    ∷ markup (codes "</dd></div>\n<div><dt>Objects</dt><dd>")
+    ∷ number (objects_in S)
     ∷ markup (codes "</dd></div>\n") ∷ []
 
--- How many loans are agreed, and the number of the last entry.
+-- How many loans are agreed, how many of them are open, and the number of the last entry.
 abbrev pub entries_row : Book → List Piece
 entries_row B =
     markup (codes "<div><dt>Loans</dt><dd>")
     ∷ number (length (loans_in B))
+    ∷ markup (codes "</dd></div>\n<div><dt>Open loans</dt><dd>")
+    ∷ number (open_loans B)
     ∷ markup (codes "</dd></div>\n<div><dt>Last entry</dt><dd>")
     ∷ number (length B.posted)
     ∷ markup (codes "</dd></div>\n") ∷ []
 
--- Both.
-abbrev pub numbers_row : Book → List Piece
-numbers_row B = setup_row B.museum ++ entries_row B
+-- The day on which loans are overdue, if one is given.
+abbrev pub day_row : Option ℤ → List Piece
+day_row None = []
+day_row (Some day) =
+    markup (codes "<div><dt>Overdue on</dt><dd>")
+    ∷ text (day_text day)
+    ∷ markup (codes "</dd></div>\n") ∷ []
+
+-- All of these.
+abbrev pub numbers_row : Book → Option ℤ → List Piece
+numbers_row B on = setup_row B.museum ++ (entries_row B ++ day_row on)

@@ -1,12 +1,47 @@
 //! The numbers of objects at the nodes of the tree.
-ghost use Rattle.std.specs.Prelude.{◌≡◌, ◌<◌, All, IfOk, filter, length, not};
+ghost use Rattle.std.specs.Prelude.{◌≡◌, ◌<◌, ◌≤◌, All, IfOk, filter, length, not};
 ghost use Rattle.nest_core.specs.Museum.{is_container};
+ghost use Rattle.reports.specs.LoanLists.{is_open};
+ghost use Rattle.page_core.specs.Numbers.{objects_in as objects_in_setup, open_loans};
 ghost use Rattle.page_core.specs.TreeRows.{is_object_at, objects_at, objects_in};
 
-use codes_core::{NoMemory, ThingKind};
+use codes_core::{LoanCode, NoMemory, ThingKind};
 use nest_core::{PlaceNo, Setup, ThingNo};
-use posting_core::Ledger;
+use posting_core::{Ledger, LoanState};
 use std::alloc::Global;
+
+/// The number of objects in a setup.
+pub(crate) fn objects_of(setup: &Setup) -> u32
+    ensures count { result ≡ objects_in_setup setup.now }
+    ensures few { result ≤ length setup.now.things }
+{
+    let mut count = 0;
+    for thing in 0..setup.things() {
+        if is_object(setup, thing) {
+            count += 1;
+        }
+    }
+    count
+}
+
+/// The number of loans that are not closed.
+pub(crate) fn open_loans(ledger: &Ledger) -> u64
+    ensures { result ≡ open_loans ledger.now }
+{
+    let mut count = 0;
+    for i in 0..ledger.loan_count() {
+        if is_open(ledger, &ledger.loan_at(i)) {
+            count += 1;
+        }
+    }
+    count
+}
+
+fn is_open(ledger: &Ledger, loan: &LoanCode) -> bool
+    ensures { result ≡ is_open ledger.now loan.now }
+{
+    !matches!(ledger.loan_state(loan), Some(LoanState::Closed))
+}
 
 /// The number of objects at a place, also of those in containers.
 pub(crate) fn objects_at(ledger: &Ledger, place: PlaceNo) -> u64

@@ -31,10 +31,17 @@ th, td { padding: 0.2rem 1rem 0.2rem 0; text-align: left; white-space: nowrap; }
 th { color: #555; font-size: 0.85rem; font-weight: 400; }\n\
 td { border-top: 1px solid #ddd; }\n\
 .loans td:last-child { font-weight: 600; }\n\
+.past { margin: 0 0 0.5rem 1.1rem; font-weight: 400; }\n\
+.tree li { cursor: pointer; }\n\
+#times { display: block; width: 100%; min-width: 40rem; margin: 0 0 1rem; font-size: 12px; }\n\
+#times rect { fill: #6a8fc7; }\n\
+#times .late { fill: #c33; }\n\
+#times line { stroke: #ddd; }\n\
 @media print {\n\
 body { max-width: none; font-size: 9pt; }\n\
 input, #found { display: none; }\n\
 .wide { overflow: visible; }\n\
+#times { min-width: 0; }\n\
 th, td { white-space: normal; }\n\
 tr { break-inside: avoid; }\n\
 }\n\
@@ -60,6 +67,12 @@ pub(crate) const UNPLACED: &str = "<h2>Not placed</h2>\n<ul class=\"tree\">";
 /// After the rows of a tree.
 pub(crate) const TREE_END: &str = "</ul>\n";
 
+/// Before the locations of all things, which only the script reads.
+pub(crate) const HISTORIES: &str = "<script type=\"application/json\" id=\"history\">[\n";
+
+/// After them. The last row ends with a comma, so there is one more element.
+pub(crate) const HISTORIES_END: &str = "0]</script>\n";
+
 /// Before the loans.
 pub(crate) const LOANS: &str = "<h2>Loans in and loans out</h2>\n\
 <div class=\"wide\"><table class=\"loans\">\n\
@@ -67,6 +80,13 @@ pub(crate) const LOANS: &str = "<h2>Loans in and loans out</h2>\n\
 <th scope=\"col\">Partner</th><th scope=\"col\">First day</th><th scope=\"col\">Last day</th>\
 <th scope=\"col\">Objects</th><th scope=\"col\">Not yet returned</th>\
 <th scope=\"col\">Overdue</th></tr></thead>\n\
+<tbody>\n";
+
+/// Before the objects of all loans.
+pub(crate) const LOAN_OBJECTS: &str = "<h2>Objects of each loan</h2>\n\
+<div class=\"wide\"><table>\n\
+<thead><tr><th scope=\"col\">Loan</th><th scope=\"col\">Object number</th>\
+<th scope=\"col\">Stage</th></tr></thead>\n\
 <tbody>\n";
 
 /// Before the objects that are away from their normal locations.
@@ -91,69 +111,3 @@ pub(crate) const ENTRIES: &str = "<h2>Last entries</h2>\n\
 
 /// After the rows of a table.
 pub(crate) const TABLE_END: &str = "</tbody></table></div>\n";
-
-/// The script, and the end of the page. A search lists what it finds below the box and leaves the
-/// tree as it is, because to hide and show each row takes seconds on a large page.
-pub(crate) const PAGE_END: &str = "<script>\n\
-var box = document.getElementById('find');\n\
-var found = document.getElementById('found');\n\
-var most = 100;\n\
-var items;\n\
-function nameOf(row) {\n\
-  if (row.cells) return row.cells[0].textContent;\n\
-  return (row.querySelector('summary') || row).firstChild.data.trim();\n\
-}\n\
-function whereIs(row) {\n\
-  var names = [];\n\
-  for (var at = row.parentNode.closest('li'); at; at = at.parentNode.closest('li')) {\n\
-    names.unshift(nameOf(at));\n\
-  }\n\
-  return names.join(' / ');\n\
-}\n\
-function read() {\n\
-  items = [];\n\
-  document.querySelectorAll('.tree li, .loans tbody tr').forEach(function (row) {\n\
-    items.push({ row: row, name: nameOf(row).toLowerCase() });\n\
-  });\n\
-}\n\
-function show(row) {\n\
-  var above = row.closest('details');\n\
-  while (above) {\n\
-    above.open = true;\n\
-    above = above.parentNode.closest('details');\n\
-  }\n\
-  var node = row.querySelector('summary') || row;\n\
-  node.tabIndex = -1;\n\
-  node.scrollIntoView({ block: 'center' });\n\
-  node.focus();\n\
-}\n\
-function add(text, row) {\n\
-  var node = found.appendChild(document.createElement('li'));\n\
-  if (!row) { node.textContent = text; return; }\n\
-  var name = node.appendChild(document.createElement('button'));\n\
-  name.textContent = text;\n\
-  name.addEventListener('click', function () { show(row); });\n\
-  var place = node.appendChild(document.createElement('small'));\n\
-  place.textContent = whereIs(row);\n\
-}\n\
-function find() {\n\
-  if (!items) read();\n\
-  var text = box.value.trim().toLowerCase();\n\
-  found.replaceChildren();\n\
-  if (text === '') return;\n\
-  var hits = items.filter(function (item) { return item.name.includes(text); });\n\
-  var exact = hits.filter(function (item) { return item.name === text; });\n\
-  exact.concat(hits.filter(function (item) { return item.name !== text; }))\n\
-    .slice(0, most).forEach(function (item) { add(nameOf(item.row), item.row); });\n\
-  if (hits.length === 0) add('Nothing found');\n\
-  if (hits.length > most) add('and ' + (hits.length - most) + ' more');\n\
-}\n\
-box.hidden = false;\n\
-box.addEventListener('focus', function () { if (!items) read(); });\n\
-box.addEventListener('input', find);\n\
-addEventListener('beforeprint', function () {\n\
-  document.querySelectorAll('details').forEach(function (node) { node.open = true; });\n\
-});\n\
-</script>\n\
-</body>\n\
-</html>\n";

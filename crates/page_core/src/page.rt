@@ -1,19 +1,22 @@
 //! Writes a page.
 ghost use Rattle.std.specs.Prelude.{◌≡◌};
 ghost use Rattle.html_texts.specs.Pieces.{page_text};
-ghost use Rattle.page_core.specs.Pages.{away, entries, loans, numbers, page, stations, tree};
-ghost use Rattle.page_core.specs.Pages.{unplaced};
+ghost use Rattle.page_core.specs.Pages.{away, entries, histories, lending, loan_objects, loans};
+ghost use Rattle.page_core.specs.Pages.{locations, numbers, page, posts, stations, tree, unplaced};
 ghost use Rattle.page_core.specs.Writes.{Writes};
 
 use crate::away::Away;
 use crate::entries::LastEntries;
 use crate::frame::{
-    AWAY, ENTRIES, HEAD, LOANS, NUMBERS_END, PAGE_END, STATIONS, TABLE_END, TREE, TREE_END,
-    UNPLACED,
+    AWAY, ENTRIES, HEAD, HISTORIES, HISTORIES_END, LOAN_OBJECTS, LOANS, NUMBERS_END, STATIONS,
+    TABLE_END, TREE, TREE_END, UNPLACED,
 };
+use crate::histories::Histories;
+use crate::loan_objects::LoanObjects;
 use crate::loans::Loans;
 use crate::numbers::Numbers;
 use crate::rows::write_section;
+use crate::script::PAGE_END;
 use crate::stations::Stations;
 use crate::tree::Tree;
 use crate::writing::write_text;
@@ -38,22 +41,63 @@ pub fn write_page<W: Write>(
     ensures { Writes (W.contents out.old) (W.contents out.new) result
         (page_text (page ledger.now on)) }
 {
-    write_numbers(alloc, ledger, out)?;
+    write_locations(alloc, ledger, &on, out)?;
+    write_lending(alloc, ledger, &on, out)?;
+    write_posts(alloc, ledger, out)
+}
+
+/// Writes where everything is and was.
+fn write_locations<W: Write>(
+    alloc: Global,
+    ledger: &Ledger,
+    on: &Option<Day>,
+    out: &mut W,
+) -> Result<(), PrintFault>
+    ensures { Writes (W.contents out.old) (W.contents out.new) result
+        (page_text (locations ledger.now on.now)) }
+{
+    write_numbers(alloc, ledger, on, out)?;
     write_tree(alloc, ledger, out)?;
     write_unplaced(alloc, ledger, out)?;
-    write_loans(alloc, ledger, on, out)?;
-    write_away(alloc, ledger, out)?;
+    write_histories(alloc, ledger, out)
+}
+
+/// Writes what is on loan, or away for another reason.
+fn write_lending<W: Write>(
+    alloc: Global,
+    ledger: &Ledger,
+    on: &Option<Day>,
+    out: &mut W,
+) -> Result<(), PrintFault>
+    ensures { Writes (W.contents out.old) (W.contents out.new) result
+        (page_text (lending ledger.now on.now)) }
+{
+    write_loans(alloc, ledger, *on, out)?;
+    write_loan_objects(alloc, ledger, out)?;
+    write_away(alloc, ledger, out)
+}
+
+/// Writes the stations, the last entries, and the end of the page.
+fn write_posts<W: Write>(alloc: Global, ledger: &Ledger, out: &mut W) -> Result<(), PrintFault>
+    ensures { Writes (W.contents out.old) (W.contents out.new) result
+        (page_text (posts ledger.now)) }
+{
     write_stations(alloc, ledger, out)?;
     write_entries(alloc, ledger, out)?;
     write_text(out, PAGE_END)
 }
 
-/// Writes the head and the museum in numbers.
-fn write_numbers<W: Write>(alloc: Global, ledger: &Ledger, out: &mut W) -> Result<(), PrintFault>
+/// Writes the head, the museum in numbers, and the day, if one is given.
+fn write_numbers<W: Write>(
+    alloc: Global,
+    ledger: &Ledger,
+    on: &Option<Day>,
+    out: &mut W,
+) -> Result<(), PrintFault>
     ensures { Writes (W.contents out.old) (W.contents out.new) result
-        (page_text (numbers ledger.now)) }
+        (page_text (numbers ledger.now on.now)) }
 {
-    write_section(alloc, HEAD, &Numbers { ledger }, NUMBERS_END, out)
+    write_section(alloc, HEAD, &Numbers { ledger, on: *on }, NUMBERS_END, out)
 }
 
 /// Writes where everything is.
@@ -74,6 +118,14 @@ fn write_unplaced<W: Write>(alloc: Global, ledger: &Ledger, out: &mut W) -> Resu
     write_section(alloc, UNPLACED, &rows, TREE_END, out)
 }
 
+/// Writes the current and former locations of all things.
+fn write_histories<W: Write>(alloc: Global, ledger: &Ledger, out: &mut W) -> Result<(), PrintFault>
+    ensures { Writes (W.contents out.old) (W.contents out.new) result
+        (page_text (histories ledger.now)) }
+{
+    write_section(alloc, HISTORIES, &Histories { ledger }, HISTORIES_END, out)
+}
+
 /// Writes the loans, and marks those that are overdue on the day.
 fn write_loans<W: Write>(
     alloc: Global,
@@ -86,6 +138,18 @@ fn write_loans<W: Write>(
 {
     let rows = Loans::find(alloc, ledger, on)?;
     write_section(alloc, LOANS, &rows, TABLE_END, out)
+}
+
+/// Writes the objects of all loans.
+fn write_loan_objects<W: Write>(
+    alloc: Global,
+    ledger: &Ledger,
+    out: &mut W,
+) -> Result<(), PrintFault>
+    ensures { Writes (W.contents out.old) (W.contents out.new) result
+        (page_text (loan_objects ledger.now)) }
+{
+    write_section(alloc, LOAN_OBJECTS, &LoanObjects { ledger }, TABLE_END, out)
 }
 
 /// Writes the objects that are away from their normal locations.

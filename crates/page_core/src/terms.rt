@@ -1,6 +1,7 @@
 //! The terms of a loan, and its objects.
 ghost use Rattle.std.specs.Prelude.{◌≡◌, option_map};
 ghost use Rattle.posting_core.specs.Agreements.{agreement, agreement_by};
+ghost use Rattle.reports.specs.LoanLists.{stage_in};
 ghost use Rattle.page_core.specs.Loans.{count_out, is_out};
 ghost use Rattle.page_core.specs.Terms.{agreement_with};
 
@@ -66,9 +67,14 @@ pub(crate) fn count_out(ledger: &Ledger, terms: &Terms<'_>) -> u64
 fn is_out(ledger: &Ledger, terms: &Terms<'_>, object: &ThingCode) -> bool
     ensures { result ≡ is_out ledger.now (agreement_with terms.now) object.now }
 {
-    let Some(thing) = ledger.setup().thing(object) else {
-        return false;
-    };
-    let stage = ledger.line(&terms.loan, thing);
+    let stage = stage_of(ledger, terms, object);
     matches!(stage, Some(LineStage::Away | LineStage::Here))
+}
+
+/// The stage of an object under the loan with these terms.
+pub(crate) fn stage_of(ledger: &Ledger, terms: &Terms<'_>, object: &ThingCode) -> Option<LineStage>
+    ensures { result ≡ stage_in ledger.now (agreement_with terms.now) object.now }
+{
+    let thing = ledger.setup().thing(object)?;
+    ledger.line(&terms.loan, thing)
 }

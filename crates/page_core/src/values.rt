@@ -3,16 +3,17 @@ ghost use Rattle.std.specs.Prelude.{◌≡◌, ◌++◌, ◌<◌, IfOk, IfSome, 
 ghost use Rattle.std.specs.Prelude.{decimal, string_bytes};
 ghost use Rattle.codes_core.specs.Day.{day_text};
 ghost use Rattle.reports.specs.Cells.{day_if, plain_text, text_if};
-ghost use Rattle.reports.specs.Loans.{state_word};
+ghost use Rattle.reports.specs.Loans.{stage_word, state_word};
 ghost use Rattle.reports.specs.Texts.{place_text_if};
+ghost use Rattle.html_texts.specs.Escapes.{escaped};
 ghost use Rattle.html_texts.specs.Pieces.{page_text};
 ghost use Rattle.html_texts.specs.Tables.{cell};
 ghost use Rattle.page_core.specs.Values.{value_of, values_row};
 
 use codes_core::{Day, LoanCode, NoMemory, PlaceCode, ThingCode};
-use html_texts::push_cell;
+use html_texts::{escaped, push_cell};
 use nest_core::{PlaceNo, Setup};
-use posting_core::LoanState;
+use posting_core::{LineStage, LoanState};
 use std::alloc::Global;
 
 /// A value of a row. Codes and days are copied without memory.
@@ -82,6 +83,15 @@ fn push_day(alloc: Global, row: &mut String, day: Day) -> Result<(), NoMemory>
     push_text(alloc, row, text.as_str())
 }
 
+/// The day as it is written in a page.
+pub(crate) fn escaped_day(alloc: Global, day: Day) -> Result<String, NoMemory>
+    ensures { IfOk result (λ text. string_bytes text ≡ escaped (day_text day)) }
+{
+    let mut text = String::new(alloc);
+    day.write(alloc, &mut text)?;
+    Ok(escaped(alloc, text.as_str())?)
+}
+
 /// The day, if there is one.
 pub(crate) fn day_if<'a>(day: Option<Day>) -> Value<'a>
     ensures { value_of result ≡ day_if day }
@@ -113,5 +123,19 @@ pub(crate) fn state_if<'a>(state: Option<LoanState>) -> Value<'a>
         Some(LoanState::Authorised) => Value::Word("Authorised"),
         Some(LoanState::Running) => Value::Word("Running"),
         Some(LoanState::Closed) => Value::Word("Closed"),
+    }
+}
+
+/// The word for the stage of a loan's object.
+pub(crate) fn stage_if<'a>(stage: Option<LineStage>) -> Value<'a>
+    ensures { value_of result ≡ text_if (option_map stage_word stage) }
+{
+    match stage {
+        None => Value::Nothing,
+        Some(LineStage::Awaiting) => Value::Word("Awaiting"),
+        Some(LineStage::Away) => Value::Word("Away"),
+        Some(LineStage::Back) => Value::Word("Back"),
+        Some(LineStage::Here) => Value::Word("Here"),
+        Some(LineStage::GivenBack) => Value::Word("GivenBack"),
     }
 }

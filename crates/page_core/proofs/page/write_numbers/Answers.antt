@@ -9,5 +9,5 @@ pub returns : goal.returns
 returns g c =
     subst (λ (t : List ℕ). Writes (g.W.Write.contents c.args.out.now)
     (g.W.Write.contents c.write_section.new.out) c.write_section.result t)
-    (sym (section-text HEAD.now (numbers_row c.args.ledger.now ∷ []) NUMBERS_END.now))
+    (sym (section-text HEAD.now (numbers_row c.args.ledger.now c.args.on.now ∷ []) NUMBERS_END.now))
     c.write_section.ensures
