@@ -1,8 +1,12 @@
 """The examples of the pages for users print what the pages show."""
+import contextlib
+import csv
+import io
 import os
 import pathlib
 import re
 import shutil
+import sqlite3
 import subprocess
 
 from common.room import ROOT, Failed, none_of, same
@@ -78,6 +82,26 @@ def examples(lines):
         yield command[2:], shown or None
 
 
+def queries(lines):
+    """The queries of a block, each with the rows below it."""
+    text = "".join(line + "\n" for line in lines)
+    for query, shown in re.findall(
+        r"^sqlite> ((?:.*\n   \.\.\.> )*.*\n)((?:(?!sqlite> ).*\n)*)", text, re.M
+    ):
+        yield query.replace("   ...> ", ""), shown
+
+
+def answered(folder, query):
+    """The rows that a query finds in the copy, on the views of names.sql, as sqlite3 prints them."""
+    names = pathlib.Path(folder, "names.sql").read_text(encoding="utf-8")
+    with contextlib.closing(sqlite3.connect(f"file:{folder}/copy.db?immutable=1", uri=True)) as it:
+        it.executescript(names)
+        found, printed = it.execute(query), io.StringIO()
+        heading = [column[0] for column in found.description]
+        csv.writer(printed, lineterminator="\n").writerows([heading, *found])
+    return printed.getvalue()
+
+
 def is_shown(shown, printed):
     """Whether a page shows what is printed. A line of three points stands for any lines."""
     start, points, end = shown.partition("...\n")
@@ -143,13 +167,18 @@ def wrong(room, page):
             printed = shells[place].printed(command)
             if shown is not None and not is_shown(shown, printed):
                 yield f"{page}: $ {command}\n  prints {printed!r}\n  shown  {shown!r}"
+        # older ones can't read JSON with ->>
+        for query, shown in queries(lines) if sqlite3.sqlite_version_info >= (3, 38) else ():
+            printed = answered(shells[place].folder, query)
+            if printed != shown:
+                yield f"{page}: {query}  finds {printed!r}\n  shown {shown!r}"
     for shell in shells.values():
         shell.end()
 
 
 def test_page_examples(room):
     """Each `$` line of AUDIT, DATA, OPERATING, SEALS, SPREADSHEETS and USING prints what the page
-    shows, errors included."""
+    shows, errors included, and each query of DATA finds the rows that the page shows."""
     os.mkdir(room.path("bin"))
     os.symlink(room.program, room.path("bin/pairsalder"))
     return none_of(it for page in PAGES for it in wrong(room, page))
