@@ -25,9 +25,9 @@ ENUMS = {
     "nest_core/src/grow_fault.rt": ["GrowFault"],
     "count_core/src/count_fault.rt": ["CountFault"],
     "count_core/src/answer.rt": ["CountAnswer"],
-    "sheet_core/src/sheet_fault.rt": ["SheetFault"],
+    "table_core/src/sheet_fault.rt": ["SheetFault"],
     "table_core/src/fault.rt": ["HeadingFault"],
-    "station_files/src/gap_fault.rt": ["GapFault"],
+    "line_files/src/gap_fault.rt": ["GapFault"],
     "register_store/src/fault.rt": ["ReadFault"],
     "register_store/src/store_fault.rt": ["StoreFault"],
     "seal_core/src/reading.rt": ["LineFault"],
@@ -111,7 +111,7 @@ def source_names():
 
 def explained_words():
     """All words that have a text, in the order of the sources."""
-    sources = sorted(glob.glob(os.path.join(ROOT, "crates", "help_texts", "src", "*.rt")))
+    sources = sorted(glob.glob(os.path.join(ROOT, "crates", "command_words", "src", "*.rt")))
     return [
         word
         for path in sources

@@ -6,7 +6,7 @@ use Rattle.std.proofs.lemmas.List.{append-nil, length-take-le}
 use Rattle.std.proofs.lemmas.Option.{slice_get_read, slice_get_within}
 use Rattle.posting_core.specs.declared.message.Message.{Message}
 use Rattle.count_core.proofs.Ranges.{take_with}
-use Rattle.sent_lines.specs.SentLines.{sent_line, ReadsAs}
+use Rattle.register_store.specs.SentLines.{sent_line, ReadsAs}
 use Rattle.audit_core.specs.Lines.{EachReads, Reads, lines_from}
 
 -- one more message has the next number

@@ -6,7 +6,7 @@ use Rattle.posting_core.specs.declared.message.Message.TheVariants.{Pack, Move}
 use Rattle.posting_core.specs.Book.{Book}
 use Rattle.posting_core.proofs.WorkedRows.{pack, gal, may, moved, run, book}
 use Rattle.count_core.specs.declared.count_row.CountRow.{CountRow}
-use Rattle.sent_lines.specs.SentLines.{sent_line}
+use Rattle.register_store.specs.SentLines.{sent_line}
 use Rattle.audit_core.specs.declared.auditing.AuditOptions.{AuditOptions}
 use Rattle.audit_core.specs.Lines.{audit_lines, has_numbers, moves}
 use Rattle.audit_core.specs.Notes.{audit_notes}

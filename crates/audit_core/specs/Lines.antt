@@ -7,7 +7,7 @@ use Rattle.posting_core.specs.declared.message.Message.{Message}
 use Rattle.posting_core.specs.declared.message.Message.TheVariants.{Move}
 use Rattle.posting_core.specs.Book.{Book}
 use Rattle.count_core.specs.declared.count_row.CountRow.{CountRow}
-use Rattle.sent_lines.specs.SentLines.{sent_line, ReadsAs}
+use Rattle.register_store.specs.SentLines.{sent_line, ReadsAs}
 use Rattle.audit_core.specs.declared.auditing.AuditOptions.{AuditOptions}
 use Rattle.audit_core.specs.declared.sightings.Sighting.{Sighting}
 use Rattle.audit_core.specs.Sightings.{container_holding, seen_elsewhere}

@@ -2,14 +2,14 @@
 ghost use Rattle.std.specs.Prelude.{◌≡◌, ◌≤◌, ◌+◌, ◌++◌, ◌∷◌, [], IfOk, IsTrue, OnOk, filter};
 ghost use Rattle.std.specs.Prelude.{length, map, string_bytes};
 ghost use Rattle.nest_core.specs.StationName.{is_station_name};
-ghost use Rattle.sent_lines.specs.SentLines.{sent_line, ReadsAs};
+ghost use Rattle.register_store.specs.SentLines.{sent_line, ReadsAs};
 ghost use Rattle.audit_core.specs.Lines.{EachReads, has_numbers, is_loose, lines_from, move_of};
 
 use crate::containers::container_holding;
 use crate::sightings::Sighting;
 use codes_core::{Day, NoMemory};
 use posting_core::{LAST_NUMBER, Ledger, Message};
-use sent_lines::sent_line;
+use register_store::sent_line;
 use std::alloc::Global;
 
 /// The sightings of things that lie in no container. Fails with `NoMemory`.

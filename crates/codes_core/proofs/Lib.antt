@@ -7,3 +7,5 @@ pub mod Segments
 pub mod Texts
 pub mod WorkedRows
 pub mod WorkedTexts
+pub mod Characters
+mod Worked

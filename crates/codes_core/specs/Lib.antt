@@ -5,3 +5,4 @@ pub mod Place
 pub mod Day
 pub mod Name
 pub mod Padded
+pub mod VisibleText

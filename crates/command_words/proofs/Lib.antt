@@ -10,3 +10,4 @@ pub mod Missing
 pub mod Filling
 pub mod Tables
 pub mod Lookup
+mod WorkedHelp

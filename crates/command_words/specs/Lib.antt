@@ -4,3 +4,5 @@ pub mod Desk
 pub mod Needs
 pub mod Words
 pub mod Tables
+pub mod Distances
+pub mod Topics

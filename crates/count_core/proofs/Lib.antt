@@ -15,3 +15,10 @@ pub mod Unflagged
 pub mod Vouching
 mod Worked
 mod WorkedSealed
+pub mod FirstFaults
+pub mod SetupLaws
+pub mod CountProgress
+pub mod CountTexts
+pub mod Commas
+pub mod Boxes
+mod WorkedChecks

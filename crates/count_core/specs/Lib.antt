@@ -6,3 +6,6 @@ pub mod Inside
 pub mod Marks
 pub mod Reports
 pub mod Sealed
+pub mod SetupChecks
+pub mod CountChecks
+pub mod Summaries

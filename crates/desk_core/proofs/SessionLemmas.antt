@@ -19,7 +19,7 @@ use Rattle.hub_core.specs.Reading.{TakesLine, TakesStart}
 use Rattle.hub_core.specs.StandsFor.{State, StandsFor}
 use Rattle.hub_core.proofs.FeedLemmas.{end_after}
 use Rattle.hub_core.proofs.Written.{appends_kept}
-use Rattle.desk_lines.specs.declared.desk.Desk.{Desk}
+use Rattle.desk_core.specs.declared.desk.Desk.{Desk}
 use Rattle.label_core.specs.Labels.{Label, code_for}
 use Rattle.desk_core.specs.declared.bench.Bench.{Bench}
 use Rattle.desk_core.specs.declared.line_fault.LineFault.{LineFault}
@@ -360,7 +360,8 @@ done_at {Q} {S} {T} {depth} {limit} {O} {B} {asks} {bench} {number} {before} {li
 -- what a fault left, with the setup and the depth limit of the start
 pub left_at : {Q : Type 0} {S T : Museum} {depth limit : ℕ} {line taken : List ℕ}
     (O : List Entry) (B : List Arrival) (l l' : Option (List ℕ)) (holding : Q → Holding)
-    (new : State Q) (s : ℕ) (before : Desk) (fault : LineFault) → T ≡ S → limit ≡ depth → line ≡ taken
+    (new : State Q) (s : ℕ) (before : Desk) (fault : LineFault) → T ≡ S → limit ≡ depth
+    → line ≡ taken
     → Leaves holding new O B (said_arrivals T limit O B s line (heard T before line).1) l l' []
     (log_text T s (said_arrivals T limit O B s line (heard T before line).1)) fault
     → Leaves holding new O B (said_arrivals S depth O B s taken (heard S before taken).1) l l' []

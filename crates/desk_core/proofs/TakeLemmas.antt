@@ -11,7 +11,7 @@ use Rattle.nest_core.specs.Museum.{Museum}
 use Rattle.posting_core.specs.Book.{Book, verdict_in}
 use Rattle.posting_core.specs.declared.message.Message.{Message}
 use Rattle.posting_core.specs.declared.verdict.Verdict.{Verdict}
-use Rattle.cause_core.specs.Named.{thing_named}
+use Rattle.posting_core.specs.Named.{thing_named}
 use Rattle.reports.specs.Causes.{sentence}
 use Rattle.reports.specs.Cells.{joined_words}
 use Rattle.hub_core.specs.declared.hub.answer.Answer.{Answer}
@@ -28,8 +28,8 @@ use Rattle.hub_core.specs.StandsFor.{State, StandsFor, TakesSome}
 use Rattle.hub_core.proofs.StandLemmas.{takes_none}
 use Rattle.desk_core.specs.Sent.{book, own_arrival, said_arrivals}
 use Rattle.desk_core.specs.declared.bench.Bench.{Bench}
-use Rattle.desk_lines.specs.declared.said.Said.{Said}
-use Rattle.desk_lines.specs.declared.said.Said.TheVariants as says
+use Rattle.desk_core.specs.declared.said.Said.{Said}
+use Rattle.desk_core.specs.declared.said.Said.TheVariants as says
 use Rattle.desk_core.specs.declared.line_fault.LineFault.{LineFault}
 use Rattle.desk_core.specs.declared.line_fault.LineFault.TheVariants.{Hub}
 use Rattle.desk_core.specs.Logs.{log_text}

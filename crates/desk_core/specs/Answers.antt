@@ -11,7 +11,7 @@ use Rattle.posting_core.specs.declared.entry.Entry.{Entry}
 use Rattle.posting_core.specs.declared.message.Message.{Message}
 use Rattle.posting_core.specs.declared.verdict.Verdict.{Verdict}
 use Rattle.register_store.specs.declared.fault.ReadFault.{ReadFault}
-use Rattle.cause_core.specs.Named.{thing_named}
+use Rattle.posting_core.specs.Named.{thing_named}
 use Rattle.reports.specs.Causes.{sentence}
 use Rattle.reports.specs.Cells.{joined_words}
 use Rattle.reports.specs.Reports.{report_text}
@@ -25,9 +25,9 @@ use Rattle.hub_core.specs.LineText.{arrival_reply, fault_text, request_reply}
 use Rattle.hub_core.specs.Points.{reply}
 use Rattle.hub_core.specs.Replies.{bad_line}
 use Rattle.hub_core.specs.Requests.{line_in}
-use Rattle.desk_lines.specs.declared.said.Rejection.TheVariants.{NotUnderstood}
-use Rattle.desk_lines.specs.declared.said.Said.{Said}
-use Rattle.desk_lines.specs.declared.said.Said.TheVariants as says
+use Rattle.desk_core.specs.declared.said.Rejection.TheVariants.{NotUnderstood}
+use Rattle.desk_core.specs.declared.said.Said.{Said}
+use Rattle.desk_core.specs.declared.said.Said.TheVariants as says
 use Rattle.desk_core.specs.declared.bench.Bench.{Bench}
 use Rattle.desk_core.specs.Sent.{book, is_own, own_arrival}
 use Rattle.desk_core.specs.Texts.{day_line, line_end, rejection_line, target_line, where_words}

@@ -4,3 +4,9 @@ pub mod Answers
 pub mod Faults
 pub mod Logs
 pub mod Sessions
+pub mod LineTexts
+pub mod Verbs
+pub mod Desks
+pub mod Codes
+pub mod Messages
+pub mod DeskStep

@@ -6,7 +6,7 @@ use Rattle.std.specs.Io.KnownBytes.{Appends}
 use Rattle.nest_core.specs.Museum.{Museum}
 use Rattle.posting_core.specs.declared.entry.Entry.{Entry}
 use Rattle.register_store.specs.Holdings.{Holding}
-use Rattle.sent_lines.specs.SentLines.{sent_line}
+use Rattle.register_store.specs.SentLines.{sent_line}
 use Rattle.hub_core.specs.declared.hub.answer.Arrival.{Arrival}
 use Rattle.hub_core.specs.LineText.{station_text}
 use Rattle.hub_core.specs.StandsFor.{State, StandsFor, TakesSome}

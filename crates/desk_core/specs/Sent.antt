@@ -14,11 +14,11 @@ use Rattle.hub_core.specs.declared.line.request.Line.{Line}
 use Rattle.hub_core.specs.LineText.{is_too_long, sent_by}
 use Rattle.hub_core.specs.Points.{point, posted}
 use Rattle.hub_core.specs.Requests.{line_in}
-use Rattle.desk_lines.specs.declared.desk.Desk.{Desk}
-use Rattle.desk_lines.specs.declared.said.Rejection.TheVariants.{NotUnderstood}
-use Rattle.desk_lines.specs.declared.said.Said.{Said}
-use Rattle.desk_lines.specs.declared.said.Said.TheVariants as says
-use Rattle.desk_lines.specs.DeskStep.{desk_step}
+use Rattle.desk_core.specs.declared.desk.Desk.{Desk}
+use Rattle.desk_core.specs.declared.said.Rejection.TheVariants.{NotUnderstood}
+use Rattle.desk_core.specs.declared.said.Said.{Said}
+use Rattle.desk_core.specs.declared.said.Said.TheVariants as says
+use Rattle.desk_core.specs.DeskStep.{desk_step}
 
 -- The record after the arrivals.
 abbrev pub book : Museum → ℕ → List Entry → List Arrival → Book

@@ -13,8 +13,8 @@ use Rattle.hub_core.specs.declared.line.bytes.TheConstants.{MOST_KEPT}
 use Rattle.hub_core.specs.Lines.{without_return}
 use Rattle.hub_core.specs.Reading.{HasNoFeed, feed_if}
 use Rattle.hub_core.specs.StandsFor.{State, StandsFor, TakesSome}
-use Rattle.desk_lines.specs.declared.desk.Desk.{Desk}
-use Rattle.desk_lines.specs.declared.said.Said.{Said}
+use Rattle.desk_core.specs.declared.desk.Desk.{Desk}
+use Rattle.desk_core.specs.declared.said.Said.{Said}
 use Rattle.label_core.specs.Labels.{Label, code_for}
 use Rattle.desk_core.specs.declared.bench.Bench.{Bench}
 use Rattle.desk_core.specs.declared.desk_fault.DeskFault.{DeskFault}

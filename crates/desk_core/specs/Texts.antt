@@ -9,14 +9,14 @@ use Rattle.reports.specs.Cells.{joined_words}
 use Rattle.reports.specs.LoanLists.{partner_of}
 use Rattle.reports.specs.Things.{where_row}
 use Rattle.reports.specs.declared.form.Form.TheVariants.{Plain}
-use Rattle.desk_lines.specs.declared.desk.Target.{Target}
-use Rattle.desk_lines.specs.declared.desk.Target.TheVariants as target
-use Rattle.desk_lines.specs.declared.said.Code.{Code}
-use Rattle.desk_lines.specs.declared.said.Code.TheVariants.{Place, Thing}
-use Rattle.desk_lines.specs.declared.said.Rejection.{Rejection}
-use Rattle.desk_lines.specs.declared.said.Rejection.TheVariants.{Ambiguous, NoDay, NotListed}
-use Rattle.desk_lines.specs.declared.said.Rejection.TheVariants.{NotUnderstood, NoTarget}
-use Rattle.desk_lines.specs.declared.said.Rejection.TheVariants.{OtherCase}
+use Rattle.desk_core.specs.declared.desk.Target.{Target}
+use Rattle.desk_core.specs.declared.desk.Target.TheVariants as target
+use Rattle.desk_core.specs.declared.said.Code.{Code}
+use Rattle.desk_core.specs.declared.said.Code.TheVariants.{Place, Thing}
+use Rattle.desk_core.specs.declared.said.Rejection.{Rejection}
+use Rattle.desk_core.specs.declared.said.Rejection.TheVariants.{Ambiguous, NoDay, NotListed}
+use Rattle.desk_core.specs.declared.said.Rejection.TheVariants.{NotUnderstood, NoTarget}
+use Rattle.desk_core.specs.declared.said.Rejection.TheVariants.{OtherCase}
 use Rattle.desk_core.specs.declared.texts.TheConstants.{MOST_SHOWN}
 
 -- The end of an answer: the bell, byte 7, if it rings, and a line feed.

@@ -4,9 +4,8 @@ ghost use Rattle.desk_core.specs.Answers.{IsReport, or_nothing};
 ghost use Rattle.reports.specs.Reports.{report_text};
 
 use crate::texts::{add, add_rejection};
-use crate::{Bench, Questions};
+use crate::{Bench, Questions, Rejection, Words};
 use codes_core::NoMemory;
-use desk_lines::{Rejection, Words};
 use posting_core::Ledger;
 use reports::{Form, Question, print};
 use std::alloc::Global;

@@ -16,8 +16,7 @@ use codes_core::NoMemory;
 use hub_core::{Answer, Arrival, Hub, write_text};
 use nest_core::{Setup, StationNo};
 use posting_core::Message;
-use register_store::Register;
-use sent_lines::sent_line;
+use register_store::{Register, sent_line};
 use std::alloc::Global;
 use std::io::Write;
 

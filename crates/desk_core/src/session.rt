@@ -7,8 +7,7 @@ ghost use Rattle.desk_core.specs.Logs.{log_of};
 ghost use Rattle.desk_core.specs.Sessions.{AfterFault, Answered};
 
 use crate::line::take_line;
-use crate::{Bench, DeskFault, Questions};
-use desk_lines::Desk;
+use crate::{Bench, Desk, DeskFault, Questions};
 use hub_core::{Hub, Reads, flush, next_line, without_return, write_text};
 use register_store::Register;
 use std::alloc::Global;

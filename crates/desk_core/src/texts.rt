@@ -7,8 +7,8 @@ ghost use Rattle.desk_core.specs.Texts.{into_line, is_printable, is_shown, line_
 ghost use Rattle.desk_core.specs.Texts.{out_line, rejection_line, rejection_words, shown};
 ghost use Rattle.desk_core.specs.Texts.{target_line, to_line};
 
+use crate::{Code, Rejection, Target};
 use codes_core::{Day, LoanCode, NoMemory, PlaceCode, ThingCode};
-use desk_lines::{Code, Rejection, Target};
 use posting_core::Ledger;
 use reports::{partner_of, where_text};
 use std::alloc::Global;

@@ -10,10 +10,10 @@ use Rattle.command_words.specs.declared.command.TableWords.{TableWords}
 use Rattle.count_core.specs.declared.count_row.CountRow.{CountRow}
 use Rattle.hub_program.specs.declared.tables.GivenTable.{GivenTable}
 use Rattle.line_files.specs.Texts.{are_fine, resend_help, resend_text}
-use Rattle.line_trials.specs.Notes.{notes}
+use Rattle.line_files.specs.Notes.{notes}
 use Rattle.nest_core.specs.Museum.{Museum, find_station, station_name_of}
 use Rattle.posting_core.specs.Book.{Book}
-use Rattle.station_files.specs.Gaps.{gap_in, next_number}
+use Rattle.line_files.specs.Gaps.{gap_in, next_number}
 use Rattle.table_core.specs.declared.options.TableOptions.{TableOptions}
 use Rattle.table_lines.specs.LineTexts.{lines_text}
 use Rattle.table_lines.specs.SheetLines.{IsLines}

@@ -3,9 +3,9 @@
 use Rattle.std.specs.Prelude.{ℕ, ◌≡◌, ◌++◌, Bool, List, Option}
 use Rattle.std.specs.Io.KnownBytes.{Appends}
 use Rattle.posting_core.specs.Book.{Book}
-use Rattle.seal_files.specs.Printing.{IsReceiptLine}
-use Rattle.seal_files.specs.ReceiptChecks.{ChecksReceipt}
-use Rattle.seal_files.specs.SealChecks.{Checks}
+use Rattle.seal_core.specs.Printing.{IsReceiptLine}
+use Rattle.seal_core.specs.ReceiptChecks.{ChecksReceipt}
+use Rattle.seal_core.specs.SealChecks.{Checks}
 
 -- Whether the seals in a file hold, and a note if there is help. The result is whether the file has
 -- a seal, and each line that is not empty is a seal that holds.

@@ -1,8 +1,8 @@
 //! Checks files before they are used.
 ghost use Rattle.std.specs.Prelude.{◌≡◌, [], OnOk};
 ghost use Rattle.std.specs.Io.KnownBytes.{Appends};
-ghost use Rattle.file_checks.specs.CountChecks.{count_faults, row_count};
-ghost use Rattle.file_checks.specs.Summaries.{counts_summary};
+ghost use Rattle.count_core.specs.CountChecks.{count_faults, row_count};
+ghost use Rattle.count_core.specs.Summaries.{counts_summary};
 ghost use Rattle.line_files.specs.Checked.{bad_lines, check_text};
 
 use crate::fault::CommandFault;
@@ -11,11 +11,11 @@ use crate::growth_fault::growth_fault;
 use crate::lines::write_line;
 use crate::list_fault::list_fault;
 use crate::row_advice::Beside;
-use file_checks::{check_counts, check_setup, counts_summary, setup_summary};
-use input_marks::past_mark;
+use count_core::{check_counts, check_setup, counts_summary, setup_summary};
 use line_files::{check_help, check_lines, check_text};
 use std::alloc::Global;
 use std::io::Write;
+use table_core::past_mark;
 
 /// Checks the files that are named, and prints a line about each that has no fault.
 ///

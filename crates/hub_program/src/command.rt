@@ -25,15 +25,14 @@ use crate::serving::served;
 use crate::store::{self, Begins, ClosedStore, closed_if, open_if};
 use crate::tables::print_lines;
 use crate::work::over_store;
-use command_words::Chosen;
 use command_words::words::chosen;
-use help_texts::DESK_CARDS;
+use command_words::{Chosen, DESK_CARDS};
 use hub_core::{Tally, Watch, run};
-use input_marks::without_mark;
 use sqlite::Start;
 use std::io::{BufRead, Write};
 use std::sync::Wait;
 use std::thread::Threads;
+use table_core::without_mark;
 use work_core::Work;
 
 /// Does the command that the words choose. They are the words after the program's name. If there

@@ -6,7 +6,6 @@ use crate::fault::CommandFault;
 use crate::files::read_setup;
 use crate::judging::judged_and_closed;
 use crate::store::{Begins, ClosedStore, OpenStore, open};
-use copy_core::{PourFault, opens_to, pour};
 use nest_core::Setup;
 use posting_core::Ledger;
 use register_store::{Register, StoreFault};
@@ -17,6 +16,7 @@ use std::fs::{File, OpenOptions, TryLockError};
 use std::io::{ErrorKind, Write};
 use std::os::unix::fs::OpenOptionsExt;
 use std::{fs, io};
+use work_core::{PourFault, opens_to, pour};
 
 /// Copies the record of a store to a new file, and prints how many entries it has.
 ///

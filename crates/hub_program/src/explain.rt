@@ -2,7 +2,7 @@
 
 use crate::advice::Advice;
 use crate::fault::CommandFault;
-use help_texts::{Meaning, Nearest, nearest_explained};
+use command_words::{Meaning, Nearest, nearest_explained};
 use std::alloc::Global;
 use std::io;
 use std::io::Write;

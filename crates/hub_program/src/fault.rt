@@ -3,19 +3,18 @@
 use crate::advice::Advice;
 use crate::growth_fault::{GrowthFault, write_growth_fault};
 use crate::list_fault::ListFault;
-use codes_core::{CodeFault, NoMemory};
+use codes_core::{CodeFault, NoMemory, write_on_one_line};
 use hub_core::RunFault;
 use label_core::LabelFault;
+use line_files::GapFault;
 use nest_core::SetupFault;
 use register_store::StoreFault;
 use setup_reports::PrintFault;
-use sheet_core::SheetFault;
 use station_core::Refusal;
-use station_files::GapFault;
 use std::alloc::{AllocError, AllocFailed};
 use std::io;
 use std::io::Write;
-use visible_text::write_on_one_line;
+use table_core::SheetFault;
 use work_core::WorkFault;
 
 /// Why a command stops.

@@ -7,13 +7,13 @@ use crate::fault::CommandFault;
 use crate::list_fault::list_fault;
 use crate::row_advice::on_setup;
 use count_core::{CountFault, CountRow, read_counts};
-use input_marks::past_mark;
 use nest_core::{Setup, SetupFault};
 use serve_core::TextFeed;
 use std::alloc::Global;
 use std::fs;
 use std::io::{BufRead, ErrorKind};
 use std::os::unix::fs::MetadataExt;
+use table_core::past_mark;
 
 /// Returns the setup in a file. Faults, in this order: those of [`read_file`]; Setup, for the
 /// setup's first fault. NoMemory can come instead of any result.

@@ -9,9 +9,9 @@ use crate::numbers::fault_of_gap;
 use crate::station::{person_of, station_of};
 use crate::store::ClosedStore;
 use codes_core::Name;
+use line_files::gap_line;
 use posting_core::Ledger;
 use sqlite::Start;
-use station_files::gap_line;
 use std::alloc::Global;
 use std::io::Write;
 

@@ -4,7 +4,7 @@ use crate::ending::{refuse, status};
 use crate::fault::CommandFault;
 use crate::lines::write_line;
 use command_words::words::chosen;
-use help_texts::{Topic, VERDICTS, page_of};
+use command_words::{Topic, VERDICTS, page_of};
 use std::alloc::Global;
 use std::io::Write;
 

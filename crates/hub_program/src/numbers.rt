@@ -4,10 +4,10 @@ ghost use Rattle.hub_program.specs.Printing.{IsFirst};
 
 use crate::advice::{on_gap, on_station, on_value};
 use crate::fault::CommandFault;
+use line_files::{GapFault, next_number};
 use nest_core::StationNo;
 use posting_core::{LAST_NUMBER, Ledger};
 use station_core::Refusal;
-use station_files::{GapFault, next_number};
 use std::alloc::Global;
 
 /// Returns the number after `--first`, if there is one. Fault: Number, if the text is no number

@@ -1,9 +1,9 @@
 //! Prints a record as a web page.
 ghost use Rattle.std.specs.Prelude.{◌≡◌, IfOk, OnOk};
 ghost use Rattle.std.specs.Io.KnownBytes.{Appends};
-ghost use Rattle.html_texts.specs.Pieces.{page_text};
+ghost use Rattle.page_core.specs.Pieces.{page_text};
 ghost use Rattle.page_core.specs.Pages.{page};
-ghost use Rattle.past_core.specs.Past.{as_of};
+ghost use Rattle.posting_core.specs.Past.{as_of};
 
 use crate::fault::CommandFault;
 use crate::judging::read_record;

@@ -9,12 +9,12 @@ use crate::files::read_named;
 use crate::judging::read_record;
 use crate::lines::write_line;
 use crate::station::station_of;
-use input_marks::past_mark;
 use line_files::resend_text;
 use posting_core::Ledger;
 use sqlite::Start;
 use std::alloc::Global;
 use std::io::{BufRead, Write};
+use table_core::past_mark;
 
 /// The arguments of `resend`.
 #[derive(Clone, Copy)]

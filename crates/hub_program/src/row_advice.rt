@@ -3,12 +3,11 @@
 
 use crate::advice::{Advice, on_encoding};
 use crate::growth_fault::row_of;
-use codes_core::{PlaceCode, ThingCode};
+use codes_core::{PlaceCode, ThingCode, add_quoted};
 use count_core::CountFault;
 use csv::{ByteRecord, Reader, ReaderBuilder};
 use nest_core::{GrowFault, MOST_GROWTHS, SetupFault, field, field_count};
 use std::alloc::{AllocError, Global};
-use visible_text::add_quoted;
 
 /// Returns the advice on a faulty setup file: the field that is wrong, and what it has to be.
 pub fn on_setup(alloc: Global, path: &str, bytes: &[u8], fault: SetupFault) -> Advice {

@@ -3,7 +3,7 @@ ghost use Rattle.std.specs.Prelude.{◌≡◌, IfOk, None, OnOk, Some, option_ma
 ghost use Rattle.hub_program.specs.Places.{kept_in};
 ghost use Rattle.hub_program.specs.Sealing.{PrintsChecks, PrintsReceipt, PrintsReceiptCheck};
 ghost use Rattle.question_words.specs.Values.{number_in};
-ghost use Rattle.seal_files.specs.Printing.{seal_line};
+ghost use Rattle.seal_core.specs.Printing.{seal_line};
 ghost use Rattle.std.specs.Io.KnownBytes.{Appends};
 
 use crate::advice::{on_check_alone, on_unposted, on_value};
@@ -13,14 +13,15 @@ use crate::files::read_named;
 use crate::judging::read_record;
 use crate::lines::write_line;
 use crate::store::ClosedStore;
-use input_marks::past_mark;
+use codes_core::add_on_one_line;
 use posting_core::{EntryNo, Ledger};
-use seal_core::{ReceiptFault, SealFault};
-use seal_files::{check_receipt_file, check_seals, receipt_line, seal_line};
+use seal_core::{
+    ReceiptFault, SealFault, check_receipt_file, check_seals, receipt_line, seal_line,
+};
 use sqlite::Start;
 use std::alloc::Global;
 use std::io::{BufRead, Write};
-use visible_text::add_on_one_line;
+use table_core::past_mark;
 
 /// The arguments of `seal`.
 #[derive(Clone, Copy)]

@@ -23,7 +23,7 @@ use crate::station::station_of;
 use codes_core::NoMemory;
 use command_words::TableWords;
 use label_core::Labels;
-use line_trials::try_lines;
+use line_files::try_lines;
 use nest_core::{Setup, StationNo};
 use posting_core::Ledger;
 use sqlite::Start;

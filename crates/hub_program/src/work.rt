@@ -10,6 +10,7 @@ ghost use Rattle.work_core.specs.Works.{FitsStations};
 use crate::fault::CommandFault;
 use crate::request::DeskQuestions;
 use crate::store::{ClosedStore, OpenStore, other_setup};
+use codes_core::{add_on_one_line, write_on_one_line};
 use hub_core::Watch;
 use nest_core::Setup;
 use register_store::PlainRegister;
@@ -19,7 +20,6 @@ use std::io;
 use std::io::{BufRead, Write};
 use std::sync::Wait;
 use std::thread::Threads;
-use visible_text::{add_on_one_line, write_on_one_line};
 use work_core::{Work, WorkFault, do_work};
 
 /// Does the work on the record in the open store, and closes the store. The record's setup is this

@@ -7,3 +7,10 @@ pub mod ReadLines
 pub mod Bads
 pub mod Whole
 mod WorkedFiles
+pub mod GapLines
+mod WorkedGaps
+pub mod TrialNumbers
+pub mod TrialSteps
+pub mod NoteSteps
+pub mod Replays
+mod WorkedTrials

@@ -12,7 +12,7 @@ use Rattle.register_store.specs.declared.fault.ReadFault.TheVariants.{NotJson}
 use Rattle.register_store.specs.declared.key.Key.TheVariants.{Station}
 use Rattle.register_store.specs.Kinds.{◌spells◌, text_at, fault_at}
 use Rattle.register_store.specs.Spelling.{key_name}
-use Rattle.sent_lines.specs.SentLines.{IsLine, ReadsAs}
+use Rattle.register_store.specs.SentLines.{IsLine, ReadsAs}
 use Rattle.hub_core.specs.declared.line.request.Line.{Line}
 use Rattle.hub_core.specs.declared.line.request.Request.{Request}
 use Rattle.hub_core.specs.declared.line.request.Request.TheVariants.{Scan}

@@ -2,7 +2,7 @@
 ghost use Rattle.std.specs.Prelude.{◌≡◌, ℕ, List, Ok, Some};
 ghost use Rattle.nest_core.specs.Museum.{Museum, find_station};
 ghost use Rattle.posting_core.specs.declared.message.Message.{Message};
-ghost use Rattle.sent_lines.specs.SentLines.{ReadsAs};
+ghost use Rattle.register_store.specs.SentLines.{ReadsAs};
 ghost use Rattle.hub_core.specs.declared.line.request.Request.TheVariants.{Scan};
 ghost use Rattle.hub_core.specs.Requests.{line_in};
 ghost use Rattle.line_files.specs.Checked.{read_fault};

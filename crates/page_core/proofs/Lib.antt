@@ -8,3 +8,6 @@ pub mod TreeWithin
 mod WorkedTables
 mod WorkedTree
 pub mod WrittenText
+pub mod Bytes
+pub mod Characters
+mod Worked

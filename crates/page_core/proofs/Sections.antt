@@ -5,8 +5,8 @@ use Rattle.std.specs.Io.KnownBytes.{Appends}
 use Rattle.std.specs.List.{flat_map}
 use Rattle.std.proofs.lemmas.Grind.{flat_map-append}
 use Rattle.std.proofs.lemmas.List.{append-nil}
-use Rattle.html_texts.specs.Pieces.{Piece, page_text, piece_text}
-use Rattle.html_texts.specs.Pieces.Piece.{markup}
+use Rattle.page_core.specs.Pieces.{Piece, page_text, piece_text}
+use Rattle.page_core.specs.Pieces.Piece.{markup}
 use Rattle.page_core.specs.Pages.{section}
 use Rattle.reports.specs.declared.fault.PrintFault.{PrintFault}
 use Rattle.page_core.specs.Writes.{Stops, Writes, rows_text}

@@ -7,7 +7,7 @@ use Rattle.codes_core.specs.Day.{day_text}
 use Rattle.posting_core.specs.declared.message.Message.TheVariants.{Agree, Authorise, Exit}
 use Rattle.posting_core.specs.declared.entry.Entry.{Entry}
 use Rattle.posting_core.proofs.WorkedRows.{book, gal, may, moved, run}
-use Rattle.html_texts.specs.Pieces.{Piece, page_text}
+use Rattle.page_core.specs.Pieces.{Piece, page_text}
 use Rattle.reports.specs.Cells.{Cell, nothing, number, text}
 use Rattle.page_core.specs.Away.{away_rows}
 use Rattle.page_core.specs.Entries.{entry_rows}

@@ -6,7 +6,7 @@ use Rattle.count_core.specs.Reports.{away}
 use Rattle.count_core.specs.declared.answer.AwayObject.{AwayObject}
 use Rattle.reports.specs.declared.form.Form.TheVariants.{Csv}
 use Rattle.reports.specs.Things.{away_row as away_values}
-use Rattle.html_texts.specs.Pieces.{Piece, page_text}
+use Rattle.page_core.specs.Pieces.{Piece, page_text}
 use Rattle.page_core.specs.Values.{values_row}
 
 -- 2001.4.1 S2 S1-A: the object, its current and its normal location, as in the report `away`.

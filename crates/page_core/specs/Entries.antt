@@ -3,7 +3,7 @@ use Rattle.std.specs.Prelude.{◌-◌, ℕ, List, length, map, min, take}
 use Rattle.std.specs.List.{range_with_len}
 use Rattle.posting_core.specs.Book.{Book}
 use Rattle.reports.specs.Stations.{entry_row_at}
-use Rattle.html_texts.specs.Pieces.{Piece, page_text}
+use Rattle.page_core.specs.Pieces.{Piece, page_text}
 use Rattle.page_core.specs.declared.entries.TheConstants.{MOST_SHOWN}
 use Rattle.page_core.specs.Values.{values_row}
 

@@ -6,8 +6,8 @@ use Rattle.nest_core.specs.Museum.{Museum}
 use Rattle.posting_core.specs.declared.entry.Spot.{Spot}
 use Rattle.posting_core.specs.Book.{Book, spots_in}
 use Rattle.reports.specs.Texts.{place_text, thing_text}
-use Rattle.html_texts.specs.Pieces.{Piece, page_text}
-use Rattle.html_texts.specs.Pieces.Piece.{markup, number, text}
+use Rattle.page_core.specs.Pieces.{Piece, page_text}
+use Rattle.page_core.specs.Pieces.Piece.{markup, number, text}
 use Rattle.page_core.specs.Tree.{things_of}
 
 -- ["2001.4.1",4,"2024-05-01","S1"], : a location of thing x, as in the report `history`.

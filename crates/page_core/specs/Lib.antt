@@ -12,3 +12,6 @@ pub mod Tree
 pub mod TreeRows
 pub mod Values
 pub mod Writes
+pub mod Escapes
+pub mod Pieces
+pub mod Tables

@@ -6,7 +6,7 @@ use Rattle.posting_core.specs.Agreements.{Agreement, agreement}
 use Rattle.posting_core.specs.Book.{Book, loans_in}
 use Rattle.reports.specs.Cells.{Cell, text}
 use Rattle.reports.specs.Loans.{stage_cell}
-use Rattle.html_texts.specs.Pieces.{Piece, page_text}
+use Rattle.page_core.specs.Pieces.{Piece, page_text}
 use Rattle.page_core.specs.Values.{values_row}
 
 -- LO2024.1 2001.4.1 Away: an object of a loan, with the stage that the report `loan` has.

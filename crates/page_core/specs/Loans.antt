@@ -11,7 +11,7 @@ use Rattle.count_core.specs.Reports.{is_out_still, overdue}
 use Rattle.reports.specs.Cells.{Cell, day_if, nothing, number, text}
 use Rattle.reports.specs.LoanLists.{stage_in}
 use Rattle.reports.specs.Loans.{state_cell}
-use Rattle.html_texts.specs.Pieces.{Piece, page_text}
+use Rattle.page_core.specs.Pieces.{Piece, page_text}
 use Rattle.page_core.specs.Values.{values_row}
 
 -- The loans that are overdue on the day, as the report `overdue` has them. None without a day.

@@ -6,8 +6,8 @@ use Rattle.codes_core.specs.Day.{day_text}
 use Rattle.nest_core.specs.Museum.{Museum, is_container}
 use Rattle.posting_core.specs.Book.{Book, loans_in}
 use Rattle.reports.specs.LoanLists.{is_open}
-use Rattle.html_texts.specs.Pieces.{Piece}
-use Rattle.html_texts.specs.Pieces.Piece.{markup, number, text}
+use Rattle.page_core.specs.Pieces.{Piece}
+use Rattle.page_core.specs.Pieces.Piece.{markup, number, text}
 
 -- The number of objects in the setup. Its other things are containers.
 abbrev pub objects_in : Museum → ℕ

@@ -2,8 +2,8 @@
 use Rattle.std.specs.Prelude.{ℕ, ℤ, ◌∷◌, ◌++◌, [], List, Option}
 use Rattle.std.specs.List.{flat_map}
 use Rattle.posting_core.specs.Book.{Book}
-use Rattle.html_texts.specs.Pieces.{Piece}
-use Rattle.html_texts.specs.Pieces.Piece.{markup}
+use Rattle.page_core.specs.Pieces.{Piece}
+use Rattle.page_core.specs.Pieces.Piece.{markup}
 use Rattle.page_core.specs.declared.frame.TheConstants.{AWAY, ENTRIES, HEAD, HISTORIES}
 use Rattle.page_core.specs.declared.frame.TheConstants.{HISTORIES_END, LOANS, LOAN_OBJECTS}
 use Rattle.page_core.specs.declared.frame.TheConstants.{NUMBERS_END, STATIONS, TABLE_END, TREE}

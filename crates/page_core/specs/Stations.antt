@@ -7,7 +7,7 @@ use Rattle.posting_core.specs.Book.{Book}
 use Rattle.reports.specs.Cells.{Cell, number, text}
 use Rattle.reports.specs.Stations.{has_signed_off, next_number}
 use Rattle.reports.specs.Texts.{station_text}
-use Rattle.html_texts.specs.Pieces.{Piece, page_text}
+use Rattle.page_core.specs.Pieces.{Piece, page_text}
 use Rattle.page_core.specs.Values.{values_row}
 
 -- The number that a station has to send next, or why there is none.

@@ -7,8 +7,8 @@ use Rattle.nest_core.specs.Nest.{is_same_place}
 use Rattle.posting_core.specs.Book.{Book, place_in}
 use Rattle.posting_core.specs.History.{carried_at}
 use Rattle.reports.specs.Texts.{place_text, thing_text}
-use Rattle.html_texts.specs.Pieces.{Piece, page_text}
-use Rattle.html_texts.specs.Pieces.Piece.{markup, number, text}
+use Rattle.page_core.specs.Pieces.{Piece, page_text}
+use Rattle.page_core.specs.Pieces.Piece.{markup, number, text}
 use Rattle.page_core.specs.declared.lines.Line.{Line}
 use Rattle.page_core.specs.declared.lines.Line.TheVariants.{PlaceBegin, PlaceEnd, ThingBegin}
 use Rattle.page_core.specs.declared.lines.Line.TheVariants.{ThingEnd}

@@ -2,8 +2,8 @@
 use Rattle.std.specs.Prelude.{List, map}
 use Rattle.codes_core.specs.Day.{day_text}
 use Rattle.reports.specs.Cells.{Cell, nothing, number, plain_text, text}
-use Rattle.html_texts.specs.Pieces.{Piece}
-use Rattle.html_texts.specs.Tables.{table_row}
+use Rattle.page_core.specs.Pieces.{Piece}
+use Rattle.page_core.specs.Tables.{table_row}
 use Rattle.page_core.specs.declared.values.Value.{Value}
 use Rattle.page_core.specs.declared.values.Value.TheVariants as value
 

@@ -25,7 +25,7 @@ ul.tree:empty::before { content: \"None\"; }\n\
 summary, #found button { cursor: pointer; }\n\
 summary { padding: 0.15rem 0; font-weight: 600; }\n\
 small { color: #555; font-weight: 400; }\n\
-.wide { overflow-x: auto; }\n\
+.wide { overflow-x: auto; content-visibility: auto; contain-intrinsic-size: auto 20rem; }\n\
 table { border-collapse: collapse; }\n\
 th, td { padding: 0.2rem 1rem 0.2rem 0; text-align: left; white-space: nowrap; }\n\
 th { color: #555; font-size: 0.85rem; font-weight: 400; }\n\
@@ -40,7 +40,7 @@ td { border-top: 1px solid #ddd; }\n\
 @media print {\n\
 body { max-width: none; font-size: 9pt; }\n\
 input, #found { display: none; }\n\
-.wide { overflow: visible; }\n\
+.wide { overflow: visible; content-visibility: visible; }\n\
 #times { min-width: 0; }\n\
 th, td { white-space: normal; }\n\
 tr { break-inside: avoid; }\n\

@@ -1,14 +1,14 @@
 //! The current and former locations of all things.
 ghost use Rattle.std.specs.Prelude.{◌≡◌, ◌<◌, All, IfOk, length, string_bytes};
 ghost use Rattle.std.specs.List.{flat_map};
-ghost use Rattle.html_texts.specs.Escapes.{escaped};
+ghost use Rattle.page_core.specs.Escapes.{escaped};
 ghost use Rattle.reports.specs.Texts.{place_text, thing_text};
 ghost use Rattle.page_core.specs.Histories.{history_text, spot_text};
 
+use crate::escapes::escaped;
 use crate::rows::Rows;
 use crate::values::escaped_day;
 use codes_core::NoMemory;
-use html_texts::escaped;
 use nest_core::{PlaceNo, Setup, ThingNo};
 use posting_core::{Ledger, Spot};
 use std::alloc::Global;

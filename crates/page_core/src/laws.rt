@@ -1,7 +1,7 @@
 //! Laws of the page. The functions do nothing: their contracts are the laws.
 ghost use Rattle.std.specs.Prelude.{◌≡◌, ◌<◌, ℕ, ℤ, Option, if◌then◌else◌, length};
 ghost use Rattle.std.specs.List.{flat_map};
-ghost use Rattle.html_texts.specs.Pieces.{marks, own_marks, page_text};
+ghost use Rattle.page_core.specs.Pieces.{marks, own_marks, page_text};
 ghost use Rattle.nest_core.specs.Nest.{is_same_place, times};
 ghost use Rattle.posting_core.specs.Book.{Book, place_in};
 ghost use Rattle.posting_core.specs.Lawful.{IsLawful};
@@ -21,5 +21,5 @@ pub fn tags_are_the_page_s_own()
     ensures { (B : Book) (on : Option ℤ)
         → marks (page_text (page B on)) ≡ flat_map own_marks (page B on) }
 {
-    html_texts::laws::tags_are_the_page_s_own();
+    crate::html_laws::tags_are_the_page_s_own();
 }

@@ -12,14 +12,17 @@
 //!
 //! The tables have the values that the reports of the crate `reports` print. [`laws`] proves two
 //! facts about every page: it lists each thing once, at its current location, and no code or name
-//! can add a tag to it.
+//! can add a tag to it. [`html_laws`] proves that a text as it is written between tags has no `<`,
+//! `>` or quote, and that each `&` begins a reference.
 #![tactic(auto)]
 
 mod away;
 mod counts;
 mod entries;
+mod escapes;
 mod frame;
 mod histories;
+pub mod html_laws;
 pub mod laws;
 mod lines;
 mod loan_objects;
@@ -31,6 +34,7 @@ mod rows;
 mod script;
 mod selection;
 mod stations;
+mod tables;
 mod terms;
 mod tree;
 mod values;

@@ -1,7 +1,7 @@
 //! The table of the objects of all loans.
 ghost use Rattle.std.specs.Prelude.{◌≡◌, IfOk, map, string_bytes};
 ghost use Rattle.std.specs.List.{flat_map};
-ghost use Rattle.html_texts.specs.Pieces.{page_text};
+ghost use Rattle.page_core.specs.Pieces.{page_text};
 ghost use Rattle.page_core.specs.LoanObjects.{object_row, objects_text, terms_row};
 ghost use Rattle.page_core.specs.Terms.{agreement_with};
 

@@ -1,7 +1,7 @@
 //! The table of the loans.
 ghost use Rattle.std.specs.Prelude.{◌≡◌, IfOk, map, string_bytes};
 ghost use Rattle.posting_core.specs.Book.{loans_in};
-ghost use Rattle.html_texts.specs.Pieces.{page_text};
+ghost use Rattle.page_core.specs.Pieces.{page_text};
 ghost use Rattle.page_core.specs.Loans.{is_among, loan_text, loan_values, overdue_cell};
 ghost use Rattle.page_core.specs.Loans.{overdue_on};
 ghost use Rattle.page_core.specs.Terms.{agreement_with};

@@ -1,6 +1,6 @@
 //! The museum in numbers.
 ghost use Rattle.std.specs.Prelude.{◌≡◌, IfOk, string_bytes};
-ghost use Rattle.html_texts.specs.Pieces.{page_text};
+ghost use Rattle.page_core.specs.Pieces.{page_text};
 ghost use Rattle.page_core.specs.Numbers.{day_row, entries_row, numbers_row, setup_row};
 
 use crate::counts::{objects_of, open_loans};
@@ -21,7 +21,7 @@ pub(crate) struct Numbers<'a> {
 
 impl<'a> Rows for Numbers<'a> {
     ghost use Rattle.std.specs.Prelude.{◌∷◌, []};
-    ghost use Rattle.html_texts.specs.Pieces.{page_text};
+    ghost use Rattle.page_core.specs.Pieces.{page_text};
     ghost use Rattle.page_core.specs.Numbers.{numbers_row};
 
     ghost texts = { λ s. page_text (numbers_row s.ledger.now s.on) ∷ [] };

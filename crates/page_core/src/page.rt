@@ -1,6 +1,6 @@
 //! Writes a page.
 ghost use Rattle.std.specs.Prelude.{◌≡◌};
-ghost use Rattle.html_texts.specs.Pieces.{page_text};
+ghost use Rattle.page_core.specs.Pieces.{page_text};
 ghost use Rattle.page_core.specs.Pages.{away, entries, histories, lending, loan_objects, loans};
 ghost use Rattle.page_core.specs.Pages.{locations, numbers, page, posts, stations, tree, unplaced};
 ghost use Rattle.page_core.specs.Writes.{Writes};

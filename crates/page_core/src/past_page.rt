@@ -1,14 +1,13 @@
 //! Writes the page of a record as it was.
 ghost use Rattle.std.specs.Prelude.{◌≡◌};
-ghost use Rattle.past_core.specs.Past.{as_of, upto};
-ghost use Rattle.html_texts.specs.Pieces.{page_text};
+ghost use Rattle.posting_core.specs.Past.{as_of, upto};
+ghost use Rattle.page_core.specs.Pieces.{page_text};
 ghost use Rattle.page_core.specs.Pages.{page};
 ghost use Rattle.page_core.specs.Writes.{Writes};
 
 use crate::write_page;
 use codes_core::Day;
-use past_core::past;
-use posting_core::Ledger;
+use posting_core::{Ledger, past};
 use reports::PrintFault;
 use std::alloc::Global;
 use std::io::Write;

@@ -1,9 +1,9 @@
 //! The script of a page.
 
-/// The script, and the end of the page. It puts each place below the place that it lies in, draws the
-/// open loans on a time line, and lists the locations of a thing when someone clicks on it. A search
-/// lists what it finds below the box and leaves the tree as it is, because to hide and show each row
-/// takes seconds on a large page.
+/// The script, and the end of the page. It puts each place below the place that it lies in, draws
+/// the open loans on a time line, and lists the locations of a thing when someone clicks on it. A
+/// search lists what it finds below the box and leaves the tree as it is, because to hide and show
+/// each row takes seconds on a large page.
 pub(crate) const PAGE_END: &str = "<script>\n\
 var box = document.getElementById('find');\n\
 var found = document.getElementById('found');\n\

@@ -2,16 +2,16 @@
 ghost use Rattle.std.specs.Prelude.{◌≡◌, ◌<◌, All, IfOk, length, map, string_bytes};
 ghost use Rattle.std.proofs.Props.{props};
 ghost use Rattle.nest_core.specs.Museum.{is_container};
-ghost use Rattle.html_texts.specs.Pieces.{page_text};
+ghost use Rattle.page_core.specs.Pieces.{page_text};
 ghost use Rattle.page_core.specs.Tree.{lines_at, tree_lines};
 ghost use Rattle.page_core.specs.TreeRows.{IsLineIn, container_row, line_text, node_end};
 ghost use Rattle.page_core.specs.TreeRows.{object_end, object_row, place_row};
 
 use crate::counts::{objects_at, objects_in};
+use crate::escapes::escaped;
 use crate::lines::{Line, tree_lines, unplaced_lines};
 use crate::rows::Rows;
 use codes_core::{NoMemory, ThingKind};
-use html_texts::escaped;
 use nest_core::{PlaceNo, Setup, ThingNo};
 use posting_core::Ledger;
 use std::alloc::Global;

@@ -5,13 +5,14 @@ ghost use Rattle.codes_core.specs.Day.{day_text};
 ghost use Rattle.reports.specs.Cells.{day_if, plain_text, text_if};
 ghost use Rattle.reports.specs.Loans.{stage_word, state_word};
 ghost use Rattle.reports.specs.Texts.{place_text_if};
-ghost use Rattle.html_texts.specs.Escapes.{escaped};
-ghost use Rattle.html_texts.specs.Pieces.{page_text};
-ghost use Rattle.html_texts.specs.Tables.{cell};
+ghost use Rattle.page_core.specs.Escapes.{escaped};
+ghost use Rattle.page_core.specs.Pieces.{page_text};
+ghost use Rattle.page_core.specs.Tables.{cell};
 ghost use Rattle.page_core.specs.Values.{value_of, values_row};
 
+use crate::escapes::escaped;
+use crate::tables::push_cell;
 use codes_core::{Day, LoanCode, NoMemory, PlaceCode, ThingCode};
-use html_texts::{escaped, push_cell};
 use nest_core::{PlaceNo, Setup};
 use posting_core::{LineStage, LoanState};
 use std::alloc::Global;

@@ -46,3 +46,5 @@ mod WorkedPacks
 pub mod WorkedRows
 mod WorkedSpots
 pub mod Written
+mod WorkedCulprits
+mod WorkedPast

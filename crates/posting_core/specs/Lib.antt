@@ -16,3 +16,6 @@ pub mod Crossings
 pub mod Onward
 pub mod Rows
 pub mod KeptForms
+pub mod Named
+pub mod Culprits
+pub mod Past

@@ -23,3 +23,9 @@ pub mod GrownRows
 pub mod WorkedTexts
 pub mod WorkedRows
 mod WorkedLoans
+pub mod StationNames
+pub mod ReadTexts
+pub mod LineTexts
+pub mod MessageTexts
+pub mod Lines
+pub mod WorkedLines

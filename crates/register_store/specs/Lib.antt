@@ -6,3 +6,4 @@ pub mod StoredRows
 pub mod Registers
 pub mod Holdings
 pub mod Plain
+pub mod SentLines

@@ -2,10 +2,11 @@
 //!
 //! [`read_message`] reads a message from JSON, or returns its first [`ReadFault`]. [`message_text`]
 //! writes it: each message has one text, and reading that text returns the message.
-//! [`write_message`] writes the same text inside another. A [`Register`]
-//! keeps a posted list: it binds a setup, posts entries and lists them, or fails with a
-//! [`StoreFault`]. [`PlainRegister`] keeps its rows in memory; `register_sql` keeps them in an
-//! SQLite database.
+//! [`write_message`] writes the same text inside another. [`sent_line`] writes the line that a
+//! station sends: its name, the message's number and the message. A replay that reads the line
+//! takes this message from this station under this number. A [`Register`] keeps a posted list: it
+//! binds a setup, posts entries and lists them, or fails with a [`StoreFault`]. [`PlainRegister`]
+//! keeps its rows in memory; `register_sql` keeps them in an SQLite database.
 //!
 //! Contracts speak of every content that a store may have after a call, if the store is quiet:
 //! nobody else writes to it, and it returns the rows that were written. An entry is stored with all
@@ -17,6 +18,8 @@
 //! let depth = register.bind(alloc, &setup)?;
 //! register.post(alloc, &entry, &changes)?;
 //! let entries = register.all(alloc)?;
+//!
+//! sent_line(..)?      // {"station":"REG","n":6,"message":{"by":"Ann","kind":"signoff"}}
 //! ```
 #![tactic(auto)]
 
@@ -26,6 +29,7 @@ mod kept_entry;
 mod key;
 pub mod laws;
 mod ledger_rows;
+mod line_writer;
 mod loan_reader;
 mod loan_rows;
 mod loan_writer;
@@ -44,6 +48,7 @@ pub use fault::ReadFault;
 pub use field::{string_at, thing_at, value_at};
 pub use key::Key;
 pub use ledger_rows::{lines_of, row_texts, spot_rows, terms_of};
+pub use line_writer::sent_line;
 pub use loan_rows::{LineKey, term_of};
 pub use message_reader::{message_in, message_of, read_message};
 pub use message_writer::{message_text, write_message};

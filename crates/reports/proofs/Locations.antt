@@ -17,7 +17,7 @@ use Rattle.posting_core.specs.declared.entry.Spot.{Spot}
 use Rattle.posting_core.specs.Book.{Book, chain_in, spots_in}
 use Rattle.posting_core.specs.History.{place_at, spot_from, spots}
 use Rattle.posting_core.specs.Messages.{day_of}
-use Rattle.past_core.specs.Past.{upto}
+use Rattle.posting_core.specs.Past.{upto}
 use Rattle.reports.specs.declared.reports.long_history.Location.{Location}
 use Rattle.reports.specs.LongHistory.{IsListed, location}
 

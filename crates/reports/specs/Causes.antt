@@ -32,12 +32,12 @@ use Rattle.posting_core.specs.Agreements.{agreement}
 use Rattle.posting_core.specs.Book.{Book, last_day_in, line_in, place_in}
 use Rattle.posting_core.specs.Loans.{crossing_in}
 use Rattle.posting_core.specs.VerdictNames.{is_applied, verdict_name}
-use Rattle.past_core.specs.Past.{upto}
-use Rattle.cause_core.specs.declared.culprit.Culprit.{Culprit}
-use Rattle.cause_core.specs.declared.culprit.Culprit.TheVariants as culprit
-use Rattle.cause_core.specs.Culprits.{culprit}
-use Rattle.cause_core.specs.Named.{container_named, kind_name, loan_named, place_named}
-use Rattle.cause_core.specs.Named.{thing_named}
+use Rattle.posting_core.specs.Past.{upto}
+use Rattle.posting_core.specs.declared.culprit.Culprit.{Culprit}
+use Rattle.posting_core.specs.declared.culprit.Culprit.TheVariants as culprit
+use Rattle.posting_core.specs.Culprits.{culprit}
+use Rattle.posting_core.specs.Named.{container_named, kind_name, loan_named, place_named}
+use Rattle.posting_core.specs.Named.{thing_named}
 use Rattle.reports.specs.declared.form.Form.{Form}
 use Rattle.reports.specs.declared.question.EntryFilter.{EntryFilter}
 use Rattle.reports.specs.Forms.{by_form}

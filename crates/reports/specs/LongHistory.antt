@@ -7,8 +7,8 @@ use Rattle.nest_core.specs.Museum.{Museum, find_thing}
 use Rattle.posting_core.specs.declared.entry.Entry.{Entry}
 use Rattle.posting_core.specs.declared.entry.Spot.{Spot}
 use Rattle.posting_core.specs.Book.{Book, chain_in, spots_in}
-use Rattle.past_core.specs.Past.{upto}
-use Rattle.cause_core.specs.Named.{kind_name, loan_named}
+use Rattle.posting_core.specs.Past.{upto}
+use Rattle.posting_core.specs.Named.{kind_name, loan_named}
 use Rattle.reports.specs.declared.form.Form.{Form}
 use Rattle.reports.specs.declared.reports.long_history.Location.{Location}
 use Rattle.reports.specs.Forms.{by_form}

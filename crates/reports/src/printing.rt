@@ -1,6 +1,6 @@
 //! Prints a report.
 ghost use Rattle.std.specs.Prelude.{map};
-ghost use Rattle.past_core.specs.Past.{as_of, upto};
+ghost use Rattle.posting_core.specs.Past.{as_of, upto};
 ghost use Rattle.reports.specs.Forms.{Prints, rows_text};
 ghost use Rattle.reports.specs.Loans.{loan_rows};
 ghost use Rattle.reports.specs.Things.{content_rows};
@@ -23,8 +23,7 @@ use crate::reports::why::print_causes;
 use crate::rows::print_rows;
 use crate::{Form, PrintFault, Question, names_of};
 use codes_core::{LoanCode, ThingCode};
-use past_core::past;
-use posting_core::Ledger;
+use posting_core::{Ledger, past};
 use std::alloc::Global;
 use std::io::Write;
 use std::thread::Threads;

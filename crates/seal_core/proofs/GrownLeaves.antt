@@ -5,7 +5,7 @@ use Rattle.std.specs.Prelude.{Option, Some, None, IfSome, unwrap_or}
 use Rattle.std.specs.List.{slice_get}
 use Rattle.std.specs.Option.{option_map_or}
 use Rattle.std.proofs.lemmas.List.{reverse-append}
-use Rattle.merkle_core.specs.Trees.{tree_head}
+use Rattle.seal_core.specs.Trees.{tree_head}
 use Rattle.nest_core.specs.Museum.{Museum}
 use Rattle.nest_core.specs.SetupGrowing.{Extends, grown}
 use Rattle.posting_core.specs.declared.entry.Entry.{Entry}

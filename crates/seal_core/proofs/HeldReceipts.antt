@@ -1,9 +1,9 @@
 -- The receipt of an entry holds.
 use Rattle.std.proofs.Common.{◌≡◌, ℕ, ◌-◌, ◌<◌, ◌≤◌, Some, arith, sym, subst}
-use Rattle.merkle_core.specs.Hashes.{leaf_hash}
-use Rattle.merkle_core.specs.Paths.{audit_path, root_from}
-use Rattle.merkle_core.specs.Trees.{tree_head}
-use Rattle.merkle_core.proofs.Complete.{audit_path-complete}
+use Rattle.seal_core.specs.Hashes.{leaf_hash}
+use Rattle.seal_core.specs.Paths.{audit_path, root_from}
+use Rattle.seal_core.specs.Trees.{tree_head}
+use Rattle.seal_core.proofs.Complete.{audit_path-complete}
 use Rattle.posting_core.specs.Book.{Book}
 use Rattle.seal_core.specs.declared.receipt.Receipt.{Receipt}
 use Rattle.seal_core.specs.Leaves.{entry_leaf, leaves}

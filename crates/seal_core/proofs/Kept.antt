@@ -13,7 +13,7 @@ use Rattle.seal_core.specs.declared.seal.Seal.{Seal}
 use Rattle.seal_core.specs.Leaves.{entry_leaf, leaves}
 use Rattle.seal_core.specs.Seals.{Holds}
 use Rattle.seal_core.proofs.MoreLeaves.{leaves_more}
-use Rattle.merkle_core.specs.Trees.{tree_head}
+use Rattle.seal_core.specs.Trees.{tree_head}
 
 pub slice_get_front : {X : Type 0} (xs ys : List X) (i : ℕ) → i < length xs
     → slice_get (xs ++ ys) i ≡ slice_get xs i

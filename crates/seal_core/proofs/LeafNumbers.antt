@@ -5,7 +5,7 @@ use Rattle.std.specs.List.{slice_get}
 use Rattle.std.proofs.lemmas.List.FromFn.{get_or-map-range_with_len, length-map-range_with_len}
 use Rattle.std.proofs.lemmas.Option.{slice_get-get_or}
 use Rattle.std.proofs.lemmas.List.{length-map}
-use Rattle.merkle_core.specs.Hashes.{leaf_hash}
+use Rattle.seal_core.specs.Hashes.{leaf_hash}
 use Rattle.posting_core.specs.Book.{Book}
 use Rattle.seal_core.specs.Leaves.{entry_leaf, leaves}
 

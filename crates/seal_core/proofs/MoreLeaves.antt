@@ -2,7 +2,7 @@
 use Rattle.std.proofs.Common.{◌≡◌, ℕ, ◌+◌, [], ◌∷◌, ◌++◌, arith, map, sym, ap, ◌∙◌}
 use Rattle.std.proofs.lemmas.List.FromFn.{map-range_with_len_more}
 use Rattle.std.proofs.lemmas.List.{map-append}
-use Rattle.merkle_core.specs.Hashes.{leaf_hash}
+use Rattle.seal_core.specs.Hashes.{leaf_hash}
 use Rattle.posting_core.specs.Book.{Book}
 use Rattle.seal_core.specs.Leaves.{entry_leaf, leaves}
 

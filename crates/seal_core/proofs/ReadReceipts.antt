@@ -11,7 +11,7 @@ use Rattle.serde_json.specs.Read.{max_depth, read}
 use Rattle.serde_json.specs.View.{items_of}
 use Rattle.serde_json.specs.Written.{items_outline, outline}
 use Rattle.serde_json.proofs.Numbers.{number_of-decimal}
-use Rattle.sent_lines.proofs.ReadTexts.{read_compact}
+use Rattle.register_store.proofs.ReadTexts.{read_compact}
 use Rattle.seal_core.specs.declared.receipt.Receipt.{Receipt}
 use Rattle.seal_core.specs.ReceiptReadings.{IsWhole}
 use Rattle.seal_core.specs.ReceiptTexts.{receipt_json, receipt_text}

@@ -4,8 +4,8 @@ use Rattle.std.specs.Fmt.{digits}
 use Rattle.std.specs.Prelude.{◌≡◌, ◌∷◌, ◌++◌, [], List, ℕ, None, Some, codes, false, refl, true}
 use Rattle.hex.specs.Hex.{encode_with}
 use Rattle.json.specs.Print.{escape_byte}
-use Rattle.merkle_core.specs.Hashes.{leaf_hash, node_hash}
-use Rattle.merkle_core.specs.Trees.{head_within, tree_head}
+use Rattle.seal_core.specs.Hashes.{leaf_hash, node_hash}
+use Rattle.seal_core.specs.Trees.{head_within, tree_head}
 use Rattle.posting_core.specs.declared.message.Message.TheVariants.{Authorise, SignOff}
 use Rattle.posting_core.specs.Book.{Book}
 use Rattle.posting_core.proofs.WorkedRows.{book, gal, pack, run}

@@ -4,3 +4,12 @@ pub mod Readings
 pub mod Receipts
 pub mod ReceiptTexts
 pub mod ReceiptReadings
+pub mod Hashes
+pub mod Trees
+pub mod Paths
+pub mod Peaks
+pub mod HeadBuilder
+pub mod FileLines
+pub mod SealChecks
+pub mod Printing
+pub mod ReceiptChecks

@@ -1,8 +1,8 @@
 -- Defines the receipt of an entry, when a receipt holds, and its text.
 use Rattle.std.specs.Prelude.{ℕ, ◌≡◌, ◌-◌, ◌<◌, ◌≤◌, Some, length, string_bytes}
-use Rattle.merkle_core.specs.Hashes.{leaf_hash}
-use Rattle.merkle_core.specs.Paths.{audit_path, root_from}
-use Rattle.merkle_core.specs.Trees.{tree_head}
+use Rattle.seal_core.specs.Hashes.{leaf_hash}
+use Rattle.seal_core.specs.Paths.{audit_path, root_from}
+use Rattle.seal_core.specs.Trees.{tree_head}
 use Rattle.posting_core.specs.Book.{Book}
 use Rattle.seal_core.specs.declared.receipt.Receipt.{Receipt}
 use Rattle.seal_core.specs.Leaves.{entry_leaf, leaves}

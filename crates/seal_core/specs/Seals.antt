@@ -2,7 +2,7 @@
 use Rattle.std.specs.Prelude.{ℕ, ◌≡◌, ◌≤◌, ◌++◌, List, codes, decimal, length, if◌then◌else◌}
 use Rattle.std.specs.Prelude.{Bool, Option, unwrap_or}
 use Rattle.hex.specs.Hex.{encode_lower}
-use Rattle.merkle_core.specs.Trees.{tree_head}
+use Rattle.seal_core.specs.Trees.{tree_head}
 use Rattle.posting_core.specs.Book.{Book}
 use Rattle.seal_core.specs.declared.seal.Seal.{Seal}
 use Rattle.seal_core.specs.Leaves.{leaves}

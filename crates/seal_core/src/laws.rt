@@ -1,6 +1,6 @@
 //! Laws of seals and receipts. The functions do nothing: their contracts are the laws.
 ghost use Rattle.std.specs.Prelude.{◌≡◌, ◌≢◌, ◌-◌, ℕ, List, length, string_bytes};
-ghost use Rattle.merkle_core.specs.Hashes.{AreHashes, Collision};
+ghost use Rattle.seal_core.specs.Hashes.{AreHashes, Collision};
 ghost use Rattle.nest_core.specs.Museum.{Museum};
 ghost use Rattle.nest_core.specs.SetupGrowing.{Extends, grown};
 ghost use Rattle.posting_core.specs.declared.entry.Entry.{Entry};
@@ -13,7 +13,7 @@ ghost use Rattle.seal_core.specs.Leaves.{entry_leaf, leaves};
 ghost use Rattle.seal_core.specs.Receipts.{ReceiptHolds};
 ghost use Rattle.seal_core.specs.Seals.{Holds};
 
-use merkle_core::laws::{heads_collide, leaves_collide, other_leaf_collides};
+use crate::tree_laws::{heads_collide, leaves_collide, other_leaf_collides};
 
 /// A seal that holds still holds after more entries are posted.
 pub fn seals_keep_holding()

@@ -2,7 +2,7 @@
 ghost use Rattle.std.specs.Prelude.{◌↔◌, IsTrue};
 ghost use Rattle.seal_core.specs.Receipts.{ReceiptHolds};
 
-use merkle_core::root_from_path;
+use crate::root_from_path;
 use posting_core::EntryNo;
 
 /// Evidence that an entry is in a record, for someone who does not see the rest of the record. No

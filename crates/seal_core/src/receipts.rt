@@ -1,6 +1,6 @@
 //! Makes the receipts of a record's entries.
 ghost use Rattle.std.specs.Prelude.{◌≡◌, ◌≤◌, ◌↔◌, IfOk, length, map};
-ghost use Rattle.merkle_core.specs.Hashes.{leaf_hash};
+ghost use Rattle.seal_core.specs.Hashes.{leaf_hash};
 ghost use Rattle.seal_core.specs.Leaves.{leaves};
 ghost use Rattle.seal_core.specs.Receipts.{IsReceipt, IsSealed, ReceiptHolds};
 ghost use Rattle.seal_core.specs.Seals.{sealed_count};
@@ -8,8 +8,8 @@ ghost use Rattle.seal_core.specs.Seals.{sealed_count};
 use crate::leaves::entry_leaf;
 use crate::receipt::Receipt;
 use crate::sealing::SealFault;
+use crate::{audit_path, head_of_hashes, leaf_hash};
 use codes_core::NoMemory;
-use merkle_core::{audit_path, head_of_hashes, leaf_hash};
 use posting_core::{EntryNo, Ledger};
 use std::alloc::Global;
 

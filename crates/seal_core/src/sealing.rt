@@ -1,13 +1,13 @@
 //! Makes and checks the seal of a record.
 ghost use Rattle.std.specs.Prelude.{◌≡◌, ◌≤◌, ◌<◌, ◌↔◌, IfOk, IsTrue, length};
-ghost use Rattle.merkle_core.specs.Trees.{tree_head};
+ghost use Rattle.seal_core.specs.Trees.{tree_head};
 ghost use Rattle.seal_core.specs.Leaves.{leaves};
 ghost use Rattle.seal_core.specs.Seals.{Holds, sealed_count};
 
+use crate::HeadBuilder;
 use crate::leaves::entry_leaf;
 use crate::seal::Seal;
 use codes_core::NoMemory;
-use merkle_core::HeadBuilder;
 use posting_core::{EntryNo, Ledger};
 use std::alloc::Global;
 use thiserror::Error;

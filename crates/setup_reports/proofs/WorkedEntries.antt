@@ -10,9 +10,9 @@ use Rattle.posting_core.specs.declared.verdict.Verdict.{Verdict}
 use Rattle.posting_core.specs.declared.verdict.Verdict.TheVariants.{Applied, UnknownContainer}
 use Rattle.posting_core.specs.declared.verdict.Verdict.TheVariants.{UnknownPlace, UnknownThing}
 use Rattle.posting_core.specs.Book.{Book}
-use Rattle.cause_core.specs.Culprits.{culprit}
+use Rattle.posting_core.specs.Culprits.{culprit}
 use Rattle.nest_core.specs.Museum.{Museum}
-use Rattle.cause_core.specs.Named.{place_named, things_named}
+use Rattle.posting_core.specs.Named.{place_named, things_named}
 use Rattle.setup_reports.specs.NowKnown.{is_new_place, knows_all, new_code_of, now_known_text}
 use Rattle.setup_reports.proofs.WorkedGrowth.{before, after}
 

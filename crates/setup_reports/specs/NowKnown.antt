@@ -12,10 +12,10 @@ use Rattle.posting_core.specs.declared.verdict.Verdict.TheVariants.{UnknownConta
 use Rattle.posting_core.specs.declared.verdict.Verdict.TheVariants.{UnknownThing}
 use Rattle.posting_core.specs.VerdictNames.{verdict_name}
 use Rattle.posting_core.specs.Verdicts.{is_container_code, is_known, is_known_place}
-use Rattle.cause_core.specs.declared.culprit.Culprit.{Culprit}
-use Rattle.cause_core.specs.declared.culprit.Culprit.TheVariants.{Loan, Place, Thing}
-use Rattle.cause_core.specs.Culprits.{a_place, a_thing}
-use Rattle.cause_core.specs.Named.{container_named, place_named, things_named}
+use Rattle.posting_core.specs.declared.culprit.Culprit.{Culprit}
+use Rattle.posting_core.specs.declared.culprit.Culprit.TheVariants.{Loan, Place, Thing}
+use Rattle.posting_core.specs.Culprits.{a_place, a_thing}
+use Rattle.posting_core.specs.Named.{container_named, place_named, things_named}
 use Rattle.setup_reports.specs.Lines.{lines}
 
 -- The value, if it passes the test.

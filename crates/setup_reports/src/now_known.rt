@@ -11,10 +11,9 @@ use crate::PrintFault;
 use crate::rows::push_line;
 use crate::unknown_code::{code_text, new_code};
 use crate::writing::write_text;
-use cause_core::Culprit;
 use codes_core::NoMemory;
 use nest_core::{Setup, StationNo};
-use posting_core::{MOST_ENTRIES, PostedEntry, Verdict};
+use posting_core::{Culprit, MOST_ENTRIES, PostedEntry, Verdict};
 use std::alloc::Global;
 use std::io::Write;
 

@@ -2,14 +2,13 @@
 ghost use Rattle.std.specs.Prelude.{◌≡◌, ◌&&◌, IfOk, None, if◌then◌else◌, not, option_map};
 ghost use Rattle.std.specs.List.{find};
 ghost use Rattle.posting_core.specs.Verdicts.{is_container_code};
-ghost use Rattle.cause_core.specs.Culprits.{a_place, a_thing};
+ghost use Rattle.posting_core.specs.Culprits.{a_place, a_thing};
 ghost use Rattle.setup_reports.specs.NowKnown.{code_of, is_new_place, is_new_thing, kept_if};
 ghost use Rattle.setup_reports.specs.NowKnown.{knows_all, new_code, was_unlisted};
 
-use cause_core::{Culprit, container_named, place_named, things_named};
 use codes_core::{NoMemory, PlaceCode, ThingCode, ThingKind};
 use nest_core::Setup;
-use posting_core::{PostedEntry, Verdict};
+use posting_core::{Culprit, PostedEntry, Verdict, container_named, place_named, things_named};
 use std::alloc::Global;
 
 /// The code for which the entry after `earlier` others was refused as unknown, if `after` lists

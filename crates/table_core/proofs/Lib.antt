@@ -6,3 +6,10 @@ pub mod HeadingSteps
 pub mod TableSteps
 mod WorkedCells
 mod WorkedTables
+pub mod Skips
+pub mod StartMarks
+pub mod WorkedMarks
+pub mod CsvRows
+pub mod Rows
+pub mod Tables
+mod Worked

@@ -5,3 +5,6 @@ pub mod Cells
 pub mod TableRows
 pub mod RowCells
 pub mod Tables
+pub mod Marks
+pub mod Sheets
+pub mod SheetFaults

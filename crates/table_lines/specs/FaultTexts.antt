@@ -3,7 +3,7 @@ use Rattle.std.specs.Prelude.{ℕ, ◌++◌, List, codes, decimal}
 use Rattle.std.specs.List.{flat_map}
 use Rattle.codes_core.specs.declared.fault.CodeFault.{CodeFault}
 use Rattle.codes_core.specs.declared.fault.CodeFault.TheVariants as code_faults
-use Rattle.sheet_core.specs.SheetFaults.{name_of}
+use Rattle.table_core.specs.SheetFaults.{name_of}
 use Rattle.table_core.specs.declared.fault.CellFault.{CellFault}
 use Rattle.table_core.specs.declared.fault.CellFault.TheVariants as cell_faults
 use Rattle.table_core.specs.declared.fault.FaultyCell.{FaultyCell}
@@ -14,7 +14,7 @@ use Rattle.table_core.specs.Columns.{column_name}
 use Rattle.table_lines.specs.declared.lines_fault.LinesFault.{LinesFault}
 use Rattle.table_lines.specs.declared.lines_fault.LinesFault.TheVariants.{Sheet, Heading, Rows}
 use Rattle.table_lines.specs.declared.lines_fault.LinesFault.TheVariants.{NoMemory}
-use Rattle.visible_text.specs.VisibleText.{quoted}
+use Rattle.codes_core.specs.VisibleText.{quoted}
 
 abbrev pub code_words : CodeFault → List ℕ
 code_words code_faults.Empty = codes "empty"

@@ -1,7 +1,7 @@
 -- Defines the lines that a station sends for the messages of a table.
 use Rattle.std.specs.Prelude.{ℕ, ◌++◌, List, codes}
 use Rattle.std.specs.List.{AllByRecursion, flat_map}
-use Rattle.sent_lines.specs.SentLines.{ReadsAs, sent_line}
+use Rattle.register_store.specs.SentLines.{ReadsAs, sent_line}
 use Rattle.table_core.specs.declared.row.TableLine.{TableLine}
 
 -- The line of a message with its line feed.

@@ -1,6 +1,6 @@
 -- Defines which fault of a table's lines stands for those of lower crates.
-use Rattle.sheet_core.specs.declared.sheet_fault.SheetFault.{SheetFault}
-use Rattle.sheet_core.specs.declared.sheet_fault.SheetFault.TheVariants as sheet
+use Rattle.table_core.specs.declared.sheet_fault.SheetFault.{SheetFault}
+use Rattle.table_core.specs.declared.sheet_fault.SheetFault.TheVariants as sheet
 use Rattle.table_core.specs.declared.table_fault.TableFault.{TableFault}
 use Rattle.table_core.specs.declared.table_fault.TableFault.TheVariants as table
 use Rattle.table_lines.specs.declared.lines_fault.LinesFault.{LinesFault}

@@ -1,7 +1,7 @@
 -- Defines the notes about the columns of a table that are not used.
 use Rattle.std.specs.Prelude.{ℕ, ◌-◌, ◌++◌, List, [], codes, decimal}
 use Rattle.std.specs.List.{flat_map, slice_index_or}
-use Rattle.visible_text.specs.VisibleText.{quoted}
+use Rattle.codes_core.specs.VisibleText.{quoted}
 
 -- The note for a field of the heading. The fields count from 1.
 abbrev pub note_text : List (List ℕ) → ℕ → List ℕ

@@ -3,7 +3,7 @@ use Rattle.std.specs.Prelude.{ℕ, ◌≡◌, ⊤, List, [], ◌∷◌, map, Som
 use Rattle.std.specs.Prelude.{if◌then◌else◌}
 use Rattle.std.specs.Str.{is_utf8}
 use Rattle.label_core.specs.Labels.{Label, code_for}
-use Rattle.sheet_core.specs.Sheets.{sheet_fault, sheet_rows}
+use Rattle.table_core.specs.Sheets.{sheet_fault, sheet_rows}
 use Rattle.table_core.specs.declared.options.TableOptions.{TableOptions}
 use Rattle.table_core.specs.Tables.{Texts, IsTable, AreFaults, heading_fault}
 use Rattle.table_lines.specs.declared.lines_fault.LinesFault.{LinesFault}

@@ -4,10 +4,9 @@ ghost use Rattle.table_lines.specs.FaultTexts.{cell_text, cells_text, faults_tex
 
 use crate::LinesFault;
 use crate::fault_words::{words_before, words_of};
-use codes_core::NoMemory;
+use codes_core::{NoMemory, add_quoted};
 use std::alloc::Global;
 use table_core::{FaultyCell, HeadingFault};
-use visible_text::add_quoted;
 
 /// Returns the lines of all faults, in their order, each with its line feed: one of the table or
 /// its heading, or one for each faulty cell. Fails with `NoMemory`.

@@ -4,7 +4,7 @@ ghost use Rattle.nest_core.specs.StationName.{is_station_name};
 ghost use Rattle.table_lines.specs.LineTexts.{EachReadsAs, ReadsAsItself, lines_text, sent_text};
 
 use codes_core::NoMemory;
-use sent_lines::sent_line;
+use register_store::sent_line;
 use std::alloc::Global;
 use table_core::TableLine;
 

@@ -1,8 +1,7 @@
 //! Why a table has no lines.
 
 use codes_core::NoMemory;
-use sheet_core::SheetFault;
-use table_core::{FaultyCell, HeadingFault, TableFault};
+use table_core::{FaultyCell, HeadingFault, SheetFault, TableFault};
 
 /// Why a table has no lines. The first that applies is returned.
 #[derive(Drop)]

@@ -4,9 +4,8 @@ ghost use Rattle.std.specs.List.{slice_index_or};
 ghost use Rattle.table_lines.specs.NoteTexts.{note_text, notes_text};
 
 use crate::SheetLines;
-use codes_core::NoMemory;
+use codes_core::{NoMemory, add_quoted};
 use std::alloc::Global;
-use visible_text::add_quoted;
 
 /// Returns a note for each column of the heading that is not used, each with its line feed. Fails
 /// with `NoMemory`.

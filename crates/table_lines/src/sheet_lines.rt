@@ -6,9 +6,8 @@ ghost use Rattle.table_lines.specs.SheetLines.{IsLines, IsLinesFault, coded_rows
 use crate::LinesFault;
 use crate::coded_rows::{coded_rows, first_row};
 use label_core::Labels;
-use sheet_core::read_sheet;
 use std::alloc::Global;
-use table_core::{Table, TableFault, TableOptions, read_table};
+use table_core::{Table, TableFault, TableOptions, read_sheet, read_table};
 
 /// The messages of a table, and its heading.
 #[derive(Drop)]

@@ -8,7 +8,7 @@ use Rattle.hub_core.specs.Openings.{Opened, IsNotOpened}
 use Rattle.hub_core.specs.Replayed as replayed
 use Rattle.hub_core.specs.StandsFor.{State, StandsFor}
 use Rattle.nest_core.specs.Museum.{Museum}
-use Rattle.past_core.specs.Past.{as_of}
+use Rattle.posting_core.specs.Past.{as_of}
 use Rattle.posting_core.specs.declared.entry.Entry.{Entry}
 use Rattle.posting_core.specs.Lawful.{is_signed_off}
 use Rattle.register_store.specs.Holdings.{Holding, Comes}

@@ -10,7 +10,7 @@ use Rattle.hub_core.specs.Openings.{Opened}
 use Rattle.hub_core.specs.Outcomes.{Watched}
 use Rattle.hub_core.specs.StandsFor.{State, StandsFor}
 use Rattle.nest_core.specs.Museum.{Museum}
-use Rattle.past_core.specs.Past.{as_of}
+use Rattle.posting_core.specs.Past.{as_of}
 use Rattle.posting_core.specs.declared.entry.Entry.{Entry}
 use Rattle.posting_core.specs.Lawful.{is_signed_off}
 use Rattle.register_store.specs.Holdings.{Holding}
@@ -24,7 +24,7 @@ use Rattle.work_core.specs.declared.work.Work.{Work}
 use Rattle.desk_core.specs.declared.bench.Bench.{Bench}
 use Rattle.desk_core.specs.Answers.{Asks}
 use Rattle.desk_core.specs.Sessions.{Answered}
-use Rattle.desk_lines.specs.declared.desk.Desk.{Desk}
+use Rattle.desk_core.specs.declared.desk.Desk.{Desk}
 use Rattle.work_core.specs.declared.work.Work.TheVariants as works
 use Rattle.work_core.specs.declared.work.Work.TheVariants.{Replay, Print, Serve}
 

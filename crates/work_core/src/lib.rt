@@ -20,14 +20,25 @@
 //! SignedOff only if its station had signed off, and then nothing is read, written or changed. No
 //! clause speaks of the notes, nor of where a register keeps its rows.
 //!
+//! A backup has two steps. [`pour`] writes the bytes of a database file to another file: after an
+//! Ok, that file has grown by exactly these bytes, if the disk returns the bytes written to it.
+//! [`opens_to`] opens the store that was made of them, judges all its entries again, and compares
+//! it with a ledger. If it returns true, the store has the rows of the ledger's entries, and can
+//! have no others. A store that isn't a copy may also fail to open, with the faults of `Hub::open`.
+//!
 //! ```text
 //! let (register, ended) = do_work(
 //!     &rt, alloc, &questions, setup, register, Work::Replay { why: false }, &mut tally,
 //!     &mut input, &mut output, &mut notes,
 //! );
+//!
+//! pour(alloc, &mut files.db, &mut output)?;
+//! let (register, same) = opens_to(alloc, setup, copied_register, &ledger)?;
 //! ```
 #![tactic(auto)]
 
+mod copied_bytes;
+mod copied_record;
 mod desk;
 mod fault;
 mod notes;
@@ -36,5 +47,7 @@ mod replaying;
 mod serving;
 mod work;
 
+pub use copied_bytes::{PourFault, pour};
+pub use copied_record::opens_to;
 pub use fault::WorkFault;
 pub use work::{Work, do_work};

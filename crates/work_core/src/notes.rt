@@ -1,6 +1,6 @@
 //! The `note:` lines on standard error after a command that is done.
 
-use codes_core::{NoMemory, ThingCode, ThingKind};
+use codes_core::{NoMemory, ThingCode, ThingKind, add_on_one_line};
 use hub_core::Hub;
 use nest_core::Setup;
 use posting_core::Ledger;
@@ -9,7 +9,6 @@ use reports::{EntryFilter, Form, Question, print};
 use std::alloc::{AllocError, Global};
 use std::str;
 use std::thread::Threads;
-use visible_text::add_on_one_line;
 
 /// Appends a note if the report is to be about an entry that the record doesn't have yet, and one
 /// if it prints no row because the setup does not have a code or a station, or because an object

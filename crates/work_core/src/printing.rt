@@ -1,5 +1,5 @@
 //! Prints a report.
-ghost use Rattle.past_core.specs.Past.{as_of};
+ghost use Rattle.posting_core.specs.Past.{as_of};
 ghost use Rattle.std.specs.Prelude.{◌≡◌, OnOk, IfErr};
 ghost use Rattle.std.specs.Io.KnownBytes.{Appends};
 ghost use Rattle.reports.specs.Reports.{report_text};

@@ -1,8 +1,6 @@
 //! Heads and an audit path of the reference tests of Certificate Transparency.
 
-use merkle_core::{
-    HeadBuilder, audit_path, head_of_hashes, leaf_hash, root_from_path, verify_path,
-};
+use seal_core::{HeadBuilder, audit_path, head_of_hashes, leaf_hash, root_from_path, verify_path};
 
 // The leaves.
 const LEAVES: [&[u8]; 8] = [

@@ -12,9 +12,11 @@ ghost use Rattle.reports.specs.Loans.{stage_word};
 use crate::field::Field;
 use crate::optional_fields::{day_if, loan_if, place_code_if, place_if, thing_if};
 use crate::reports::loan::{partner_of, stage_field};
-use cause_core::{Culprit, container_named, find_culprit, loan_named, thing_named};
 use codes_core::{Day, LoanCode, NoMemory, PlaceCode, ThingCode, ThingKind};
-use posting_core::{Ledger, LineStage, Message, Verdict};
+use posting_core::{
+    Culprit, Ledger, LineStage, Message, Verdict, container_named, find_culprit, loan_named,
+    thing_named,
+};
 use std::alloc::Global;
 
 /// The words of the sentence on a verdict, from the record before the message. Empty for an applied

@@ -16,11 +16,9 @@ use crate::reports::history::spot_row;
 use crate::reports::posted::{entry_at, station_name};
 use crate::reports::whereabouts::thing_codes;
 use crate::rows::Rows;
-use cause_core::{kind_name, loan_named};
 use codes_core::{NoMemory, ThingCode};
 use nest_core::{Setup, ThingNo, ThingNos};
-use past_core::{past, post_next};
-use posting_core::{Ledger, PostedEntry, Spot};
+use posting_core::{Ledger, PostedEntry, Spot, kind_name, loan_named, past, post_next};
 use std::alloc::Global;
 
 /// A spot of a thing, and the containers that the thing was in right after the spot's entry,

@@ -2,7 +2,7 @@
 ghost use Rattle.std.specs.Prelude.{◌≡◌, ◌<◌, ◌+◌, IfOk, OnOk, length, map, not, option_map};
 ghost use Rattle.std.specs.Prelude.{string_bytes};
 ghost use Rattle.std.specs.Option.{option_to_list};
-ghost use Rattle.past_core.specs.Past.{upto};
+ghost use Rattle.posting_core.specs.Past.{upto};
 ghost use Rattle.reports.specs.Causes.{cause_cell, cause_row, cause_rows, cause_rows_at};
 ghost use Rattle.reports.specs.Causes.{cause_values, cause_words, code_of, entry_words};
 ghost use Rattle.reports.specs.Causes.{is_empty, verdict_word};
@@ -22,13 +22,12 @@ use crate::reports::posted::{entry_at, station_name};
 use crate::rows::{print_heading, print_line};
 use crate::table::{name_widths, widen_to_row};
 use crate::{EntryFilter, Form, PrintFault};
-use cause_core::{
-    Culprit, container_named, find_culprit, kind_name, loan_named, place_named, thing_named,
-};
 use codes_core::NoMemory;
 use nest_core::Setup;
-use past_core::{past, post_next};
-use posting_core::{Ledger, Message, PostedEntry, Verdict};
+use posting_core::{
+    Culprit, Ledger, Message, PostedEntry, Verdict, container_named, find_culprit, kind_name,
+    loan_named, past, place_named, post_next, thing_named,
+};
 use std::alloc::Global;
 use std::io::Write;
 

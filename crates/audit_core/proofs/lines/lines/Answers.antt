@@ -1,7 +1,7 @@
 use Rattle.std.proofs.Common.{◌≡◌, ◌+◌, ◌<◌, ◌++◌, ◌∷◌, [], arith, below_more, length, rules}
 use Rattle.std.proofs.Common.{string_bytes, subst}
 use Rattle.posting_core.specs.declared.message.Message.{Message}
-use Rattle.sent_lines.specs.SentLines.{sent_line, ReadsAs}
+use Rattle.register_store.specs.SentLines.{sent_line, ReadsAs}
 use Rattle.audit_core.specs.Lines.{Reads}
 use Rattle.audit_core.proofs.Numbering.{each_reads, one_more, reads_here}
 use Rattle.audit_core.proofs.lines.lines.Goals as goal

@@ -2,7 +2,7 @@ use Rattle.std.proofs.Common.{◌≡◌, ◌∙◌, ◌++◌, ℕ, List, ap, sub
 use Rattle.posting_core.specs.Book.{Book}
 use Rattle.hub_core.specs.Requests.{line_in}
 use Rattle.desk_core.specs.Answers.{IsAnswer, IsTold, passed_answer}
-use Rattle.desk_lines.specs.declared.said.Said.TheVariants as says
+use Rattle.desk_core.specs.declared.said.Said.TheVariants as says
 use Rattle.hub_core.specs.declared.hub.answer.Arrival.{Arrival}
 use Rattle.posting_core.specs.declared.entry.Entry.{Entry}
 use Rattle.desk_core.proofs.LogLemmas.{log_passed}

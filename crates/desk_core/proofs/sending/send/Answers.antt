@@ -37,7 +37,8 @@ returns-in_err-add_reply g c =
 
 pub returns-in_err-add_detail : goal.returns-in_err-add_detail
 returns-in_err-add_detail g c =
-    line_failed c.from_residual-in_err-add_detail.result _ c.from_residual-in_err-add_detail.ensures.1
+    line_failed c.from_residual-in_err-add_detail.result _
+    c.from_residual-in_err-add_detail.ensures.1
     c.post.ensures.museum c.post.ensures.depth
     (λ O A st.
     let did = c.in_ok-posted.ensures.posted O A st in

@@ -3,7 +3,7 @@ use Rattle.std.proofs.Common.{string_bytes, subst}
 use Rattle.reports.specs.Cells.{Cell, day_if, number, text, text_if}
 use Rattle.reports.specs.Loans.{state_cell, state_word}
 use Rattle.posting_core.specs.Book.{last_day_in}
-use Rattle.html_texts.specs.Pieces.{page_text}
+use Rattle.page_core.specs.Pieces.{page_text}
 use Rattle.page_core.specs.Loans.{loan_values}
 use Rattle.page_core.specs.Terms.{agreement_with}
 use Rattle.page_core.specs.Values.{value_of, values_row}

@@ -1,7 +1,7 @@
 use Rattle.std.proofs.Common.{List, [], ap, sym, ℕ, ◌≡◌, ◌++◌, ◌∙◌}
 use Rattle.std.proofs.lemmas.List.{append-nil}
 use Rattle.nest_core.specs.Museum.{Museum}
-use Rattle.html_texts.specs.Pieces.{page_text}
+use Rattle.page_core.specs.Pieces.{page_text}
 use Rattle.page_core.specs.Numbers.{day_row, entries_row, setup_row}
 use Rattle.page_core.proofs.Sections.{sections-text}
 use Rattle.page_core.proofs.numbers.numbers_row.Goals as goal

@@ -8,12 +8,14 @@ pub returns-in_err-write_numbers : goal.returns-in_err-write_numbers
 returns-in_err-write_numbers g c =
     let B = c.args.ledger.now in
     writes_err _ _ c.from_residual.result _ _ c.from_residual.ensures.1
-    (first_fails _ _ (numbers B c.args.on.now) (tree B ++ (unplaced B ++ histories B)) c.in_err-write_numbers.ensures)
+    (first_fails _ _ (numbers B c.args.on.now) (tree B ++ (unplaced B ++ histories B))
+    c.in_err-write_numbers.ensures)
 
 pub returns-in_err-write_tree : goal.returns-in_err-write_tree
 returns-in_err-write_tree g c =
     let B = c.args.ledger.now in
-    writes_err _ _ c.from_residual-in_err-write_tree.result _ _ c.from_residual-in_err-write_tree.ensures.1
+    writes_err _ _ c.from_residual-in_err-write_tree.result _ _
+    c.from_residual-in_err-write_tree.ensures.1
     (later_fails _ _ _ (numbers B c.args.on.now) (tree B ++ (unplaced B ++ histories B))
     c.in_ok-write_numbers.ensures
     (first_fails _ _ (tree B) (unplaced B ++ histories B) c.in_err-write_tree.ensures))
@@ -21,7 +23,8 @@ returns-in_err-write_tree g c =
 pub returns-in_err-write_unplaced : goal.returns-in_err-write_unplaced
 returns-in_err-write_unplaced g c =
     let B = c.args.ledger.now in
-    writes_err _ _ c.from_residual-in_err-write_unplaced.result _ _ c.from_residual-in_err-write_unplaced.ensures.1
+    writes_err _ _ c.from_residual-in_err-write_unplaced.result _ _
+    c.from_residual-in_err-write_unplaced.ensures.1
     (later_fails _ _ _ (numbers B c.args.on.now) (tree B ++ (unplaced B ++ histories B))
     c.in_ok-write_numbers.ensures
     (later_fails _ _ _ (tree B) (unplaced B ++ histories B)
@@ -31,7 +34,8 @@ returns-in_err-write_unplaced g c =
 pub returns : goal.returns
 returns g c =
     let B = c.args.ledger.now in
-    then_rest _ _ _ c.write_histories.result (numbers B c.args.on.now) (tree B ++ (unplaced B ++ histories B))
+    then_rest _ _ _ c.write_histories.result (numbers B c.args.on.now)
+    (tree B ++ (unplaced B ++ histories B))
     c.in_ok-write_numbers.ensures
     (then_rest _ _ _ c.write_histories.result (tree B) (unplaced B ++ histories B)
     c.in_ok-write_tree.ensures

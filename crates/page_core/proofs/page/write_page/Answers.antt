@@ -8,12 +8,14 @@ pub returns-in_err-write_locations : goal.returns-in_err-write_locations
 returns-in_err-write_locations g c =
     let B = c.args.ledger.now in
     writes_err _ _ c.from_residual.result _ _ c.from_residual.ensures.1
-    (first_fails _ _ (locations B c.args.on) (lending B c.args.on ++ posts B) c.in_err-write_locations.ensures)
+    (first_fails _ _ (locations B c.args.on) (lending B c.args.on ++ posts B)
+    c.in_err-write_locations.ensures)
 
 pub returns-in_err-write_lending : goal.returns-in_err-write_lending
 returns-in_err-write_lending g c =
     let B = c.args.ledger.now in
-    writes_err _ _ c.from_residual-in_err-write_lending.result _ _ c.from_residual-in_err-write_lending.ensures.1
+    writes_err _ _ c.from_residual-in_err-write_lending.result _ _
+    c.from_residual-in_err-write_lending.ensures.1
     (later_fails _ _ _ (locations B c.args.on) (lending B c.args.on ++ posts B)
     c.in_ok-write_locations.ensures
     (first_fails _ _ (lending B c.args.on) (posts B) c.in_err-write_lending.ensures))

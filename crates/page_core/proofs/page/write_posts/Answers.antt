@@ -1,6 +1,6 @@
 use Rattle.std.proofs.Common.{List, [], subst, sym, ℕ, ◌++◌, ◌∷◌}
-use Rattle.html_texts.specs.Pieces.{Piece}
-use Rattle.html_texts.specs.Pieces.Piece.{markup}
+use Rattle.page_core.specs.Pieces.{Piece}
+use Rattle.page_core.specs.Pieces.Piece.{markup}
 use Rattle.page_core.specs.Writes.{Writes}
 use Rattle.page_core.specs.declared.script.TheConstants.{PAGE_END}
 use Rattle.page_core.proofs.Sections.{end-text}
@@ -21,7 +21,8 @@ returns-in_err-write_stations g c =
 pub returns-in_err-write_entries : goal.returns-in_err-write_entries
 returns-in_err-write_entries g c =
     let B = c.args.ledger.now in
-    writes_err _ _ c.from_residual-in_err-write_entries.result _ _ c.from_residual-in_err-write_entries.ensures.1
+    writes_err _ _ c.from_residual-in_err-write_entries.result _ _
+    c.from_residual-in_err-write_entries.ensures.1
     (later_fails _ _ _ (stations B) (entries B ++ end)
     c.in_ok-write_stations.ensures
     (first_fails _ _ (entries B) end c.in_err-write_entries.ensures))

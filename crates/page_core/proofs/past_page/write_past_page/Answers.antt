@@ -1,5 +1,5 @@
 use Rattle.std.proofs.Common.{subst}
-use Rattle.html_texts.specs.Pieces.{page_text}
+use Rattle.page_core.specs.Pieces.{page_text}
 use Rattle.posting_core.specs.Book.{Book}
 use Rattle.page_core.specs.Pages.{page}
 use Rattle.page_core.specs.Writes.{Writes}

@@ -1,8 +1,8 @@
 use Rattle.std.proofs.Common.{◌≡◌, ◌++◌, codes, map, string_bytes, take}
 use Rattle.std.specs.List.{flat_map}
 use Rattle.reports.specs.Cells.{plain_text}
-use Rattle.html_texts.specs.Pieces.{page_text}
-use Rattle.html_texts.specs.Tables.{cell}
+use Rattle.page_core.specs.Pieces.{page_text}
+use Rattle.page_core.specs.Tables.{cell}
 use Rattle.page_core.specs.Values.{value_of}
 use Rattle.page_core.proofs.values.values_row.Given as goal
 

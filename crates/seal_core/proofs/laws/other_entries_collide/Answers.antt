@@ -2,8 +2,8 @@ use Rattle.std.proofs.Common.{◌≡◌, ℕ, ◌-◌, ◌<◌, Bool, true, fals
 use Rattle.std.proofs.Common.{ap, ◌∙◌, nat_lt, subst}
 use borrow.Author.Tests.{ltb-true}
 use Rattle.std.specs.Prelude.{string_bytes, if◌then◌else◌, Option}
-use Rattle.merkle_core.specs.Hashes.{leaf_hash}
-use Rattle.merkle_core.specs.Paths.{root_from}
+use Rattle.seal_core.specs.Hashes.{leaf_hash}
+use Rattle.seal_core.specs.Paths.{root_from}
 use Rattle.seal_core.specs.Leaves.{entry_leaf, leaves}
 use Rattle.seal_core.proofs.LeafNumbers.{leaf_at, leaf_count}
 use Rattle.seal_core.proofs.laws.other_entries_collide.Goals as goal

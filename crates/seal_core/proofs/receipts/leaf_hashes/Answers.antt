@@ -1,5 +1,5 @@
 use Rattle.std.proofs.Common.{◌∙◌, ◌++◌, [], ◌∷◌, List, ℕ, ap, ap₂}
-use Rattle.merkle_core.specs.Hashes.{leaf_hash}
+use Rattle.seal_core.specs.Hashes.{leaf_hash}
 use Rattle.seal_core.proofs.MoreLeaves.{hashes_more}
 use Rattle.seal_core.proofs.receipts.leaf_hashes.Goals as goal
 

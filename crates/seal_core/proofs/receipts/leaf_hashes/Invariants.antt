@@ -1,5 +1,5 @@
 use Rattle.std.proofs.Common.{◌≡◌, map}
-use Rattle.merkle_core.specs.Hashes.{leaf_hash}
+use Rattle.seal_core.specs.Hashes.{leaf_hash}
 use Rattle.seal_core.specs.Leaves.{leaves}
 use Rattle.seal_core.proofs.receipts.leaf_hashes.Given as goal
 

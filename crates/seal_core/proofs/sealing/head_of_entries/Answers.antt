@@ -1,5 +1,5 @@
 use Rattle.std.proofs.Common.{◌+◌, sym, ap, ◌∙◌, [], ◌∷◌, ◌++◌, subst}
-use Rattle.merkle_core.specs.HeadBuilder.{Holds}
+use Rattle.seal_core.specs.HeadBuilder.{Holds}
 use Rattle.seal_core.specs.Leaves.{leaves}
 use Rattle.seal_core.proofs.MoreLeaves.{leaves_more}
 use Rattle.seal_core.proofs.sealing.head_of_entries.Goals as goal

@@ -1,5 +1,5 @@
 use Rattle.std.proofs.Common.{◌≡◌}
-use Rattle.merkle_core.specs.HeadBuilder.{Holds, leaf_count}
+use Rattle.seal_core.specs.HeadBuilder.{Holds, leaf_count}
 use Rattle.seal_core.specs.Leaves.{leaves}
 use Rattle.seal_core.proofs.sealing.head_of_entries.Given as goal
 

@@ -2,7 +2,7 @@ use Rattle.std.specs.Prelude.{ℕ, List, codes, decimal}
 use Rattle.std.specs.List.{slice_index_or}
 use Rattle.std.proofs.Common.{◌≡◌, ◌++◌, [], ap, map, string_bytes, sym, ◌∙◌}
 use Rattle.std.proofs.lemmas.List.{append_assoc}
-use Rattle.visible_text.specs.VisibleText.{quoted}
+use Rattle.codes_core.specs.VisibleText.{quoted}
 use Rattle.table_lines.proofs.note_texts.add_note.Goals as goal
 
 joined : (old a b c d e : List ℕ)

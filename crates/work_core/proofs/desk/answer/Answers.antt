@@ -1,6 +1,6 @@
 use Rattle.std.proofs.Common.{◌≡◌, ◌∙◌, None, Option, ℤ, ap, inl, subst}
-use Rattle.desk_lines.specs.declared.desk.Desk.{Desk}
-use Rattle.desk_lines.specs.declared.desk.Target.{Target}
+use Rattle.desk_core.specs.declared.desk.Desk.{Desk}
+use Rattle.desk_core.specs.declared.desk.Target.{Target}
 use Rattle.desk_core.specs.Logs.{log_of}
 use Rattle.desk_core.specs.Sessions.{AfterFault}
 use Rattle.work_core.specs.Works.{new_desk}

@@ -4,7 +4,7 @@ use Rattle.std.proofs.lemmas.List.{append-nil}
 use Rattle.std.proofs.lemmas.List.Elements.{All-push}
 use Rattle.std.specs.Option.{option_to_list}
 use Rattle.posting_core.specs.Book.{chain_in, spots_in}
-use Rattle.past_core.specs.Past.{upto}
+use Rattle.posting_core.specs.Past.{upto}
 use Rattle.reports.specs.declared.reports.long_history.Location.{Location}
 use Rattle.reports.specs.LongHistory.{IsListed, IsSpotIn, location}
 use Rattle.reports.proofs.Locations.{here, is_of, listed_later, locations_more}

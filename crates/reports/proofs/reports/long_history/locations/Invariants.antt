@@ -1,6 +1,6 @@
 use Rattle.std.proofs.Common.{◌≡◌, All, map}
 use Rattle.posting_core.specs.Book.{spots_in}
-use Rattle.past_core.specs.Past.{upto}
+use Rattle.posting_core.specs.Past.{upto}
 use Rattle.reports.specs.LongHistory.{IsListed, location}
 use Rattle.reports.proofs.reports.long_history.locations.Given as goal
 

@@ -1,6 +1,6 @@
 use Rattle.std.proofs.Common.{◌≡◌, length, map, take}
 use Rattle.std.specs.List.{flat_map}
-use Rattle.past_core.specs.Past.{upto}
+use Rattle.posting_core.specs.Past.{upto}
 use Rattle.reports.specs.declared.form.Form.TheVariants as form
 use Rattle.reports.specs.Aligned.{column_widths, row_texts, wider, width}
 use Rattle.reports.specs.Causes.{cause_rows_at}

@@ -1,7 +1,7 @@
 use Rattle.std.proofs.Common.{◌≡◌, length, take}
 use Rattle.std.specs.Io.KnownBytes.{Appends}
 use Rattle.std.specs.List.{flat_map}
-use Rattle.past_core.specs.Past.{upto}
+use Rattle.posting_core.specs.Past.{upto}
 use Rattle.reports.specs.Causes.{cause_rows_at}
 use Rattle.reports.specs.Columns.{names_in}
 use Rattle.reports.specs.Forms.{lines_text}

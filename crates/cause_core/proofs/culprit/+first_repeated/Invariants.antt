@@ -1,5 +1,0 @@
-use Rattle.std.proofs.Common.{length}
-use Rattle.cause_core.proofs.culprit.+first_repeated.Given as goal
-
-abbrev pub decreases-first_repeated : goal.decreases-first_repeated
-decreases-first_repeated l = length l.codes.now

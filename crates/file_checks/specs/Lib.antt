@@ -1,3 +1,0 @@
-pub mod SetupChecks
-pub mod CountChecks
-pub mod Summaries

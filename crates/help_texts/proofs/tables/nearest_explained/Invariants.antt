@@ -1,6 +1,0 @@
-use Rattle.help_texts.specs.Distances.{IsFoundBy}
-use Rattle.help_texts.proofs.tables.nearest_explained.Given as goal
-
--- the best so far has its own distance
-abbrev pub invariant-loop-subject : goal.invariant-loop-subject
-invariant-loop-subject l = IsFoundBy l.text l.best

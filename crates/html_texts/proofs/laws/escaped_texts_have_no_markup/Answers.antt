@@ -1,5 +1,0 @@
-use Rattle.html_texts.proofs.Bytes.{marks-escaped, references-escaped}
-use Rattle.html_texts.proofs.laws.escaped_texts_have_no_markup.Goals as goal
-
-pub returns : goal.returns
-returns c = record { marks = marks-escaped; references = references-escaped }

@@ -1,3 +1,0 @@
-pub mod Escapes
-pub mod Pieces
-pub mod Tables

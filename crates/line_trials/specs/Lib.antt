@@ -1,2 +1,0 @@
-pub mod Trials
-pub mod Notes

@@ -1,5 +1,0 @@
-use Rattle.std.proofs.Common.{length}
-use Rattle.merkle_core.proofs.builder.+add_peak.Given as goal
-
-abbrev pub decreases-add_peak : goal.decreases-add_peak
-decreases-add_peak l = length l.peaks.now

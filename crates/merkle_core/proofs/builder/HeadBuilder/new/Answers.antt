@@ -1,8 +1,0 @@
-use Rattle.std.proofs.Common.{refl}
-use Rattle.merkle_core.specs.HeadBuilder.{Holds}
-use Rattle.merkle_core.proofs.PeakLemmas.{ArePeaks-none}
-use Rattle.merkle_core.proofs.builder.HeadBuilder.new.Goals as goal
-
-pub returns-clause-none : goal.returns-clause-none
-unfolding Holds
-returns-clause-none c = (refl, ArePeaks-none 0 _)

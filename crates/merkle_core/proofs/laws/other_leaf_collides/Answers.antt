@@ -1,5 +1,0 @@
-use Rattle.merkle_core.proofs.TreePaths.{other_leaf_collides}
-use Rattle.merkle_core.proofs.laws.other_leaf_collides.Goals as goal
-
-pub returns : goal.returns
-returns c = other_leaf_collides

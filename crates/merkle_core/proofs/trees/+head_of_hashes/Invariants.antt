@@ -1,5 +1,0 @@
-use Rattle.std.proofs.Common.{length}
-use Rattle.merkle_core.proofs.trees.+head_of_hashes.Given as goal
-
-abbrev pub decreases-head_of_hashes : goal.decreases-head_of_hashes
-decreases-head_of_hashes l = length l.hashes.now

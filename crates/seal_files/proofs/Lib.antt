@@ -1,2 +1,0 @@
-pub mod Rows
-mod WorkedFiles

@@ -1,6 +1,0 @@
-use Rattle.std.proofs.Common.{refl}
-use Rattle.std.proofs.lemmas.Str.Ascii.{trim_ascii_is}
-use Rattle.seal_files.proofs.lines.trimmed.Goals as goal
-
-pub returns : goal.returns
-returns c = trim_ascii_is c.args.bytes.now c.trim_ascii.result.now _ refl c.trim_ascii.ensures.value

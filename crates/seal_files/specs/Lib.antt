@@ -1,4 +1,0 @@
-pub mod FileLines
-pub mod SealChecks
-pub mod Printing
-pub mod ReceiptChecks

@@ -1,4 +1,0 @@
-pub mod CsvRows
-pub mod Rows
-pub mod Tables
-mod Worked

@@ -1,2 +1,0 @@
-pub mod GapLines
-mod WorkedGaps

@@ -1,2 +1,0 @@
-pub mod Characters
-mod Worked
