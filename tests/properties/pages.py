@@ -12,10 +12,9 @@ from common.room import Skipped, same
 from oracle import streams
 from oracle.book import chain, is_container
 from oracle.reports import Record
+from oracle.seals import seal_of
 from oracle.store import loans, spots
 from properties.reports import json_lines
-
-ROOM = MuseumRoom
 
 VOID = {"meta", "input"}
 PLACES = [line.split(",")[1] for line in streams.SETUP.splitlines() if line.startswith("place,")]
@@ -137,8 +136,8 @@ def location_rows(record):
         yield [things[thing], entry, record.posted[entry - 1].message["day"], places[at]]
 
 
-def number_rows(record, day):
-    """The museum in numbers."""
+def number_rows(record, day, lines):
+    """The museum in numbers, with the seal of these lines."""
     things, states = record.museum.things, [record.state(loan) for loan in loans(record.posted)]
     containers = sum(map(is_container, things))
     yield "Places", len(record.museum.inside)
@@ -149,19 +148,30 @@ def number_rows(record, day):
     yield "Last entry", len(record.posted)
     if day:
         yield "Overdue on", day
+    yield "Seal", seal_of(lines).rstrip()
 
 
-def station_rows(printed):
-    """The rows of the stations, by what the command of that name prints."""
-    return [line.replace(" next ", " ").split(" ", 1) for line in printed.splitlines()]
+class PageRoom(MuseumRoom):
+    def stations(self, *words):
+        """The rows of the stations, by what the command of that name prints."""
+        printed = self.printed("stations", *words)
+        return [line.replace(" next ", " ").split(" ", 1) for line in printed.splitlines()]
+
+    def lines(self, *words):
+        """The lines of the posted entries."""
+        return self.printed("posted", *words).encode().splitlines()
 
 
-def is_page(text, record, day, stations):
-    """Whether the page is well-formed, and has the record's numbers, things, locations, loans with
-    their objects, objects away, stations and last entries."""
+ROOM = PageRoom
+
+
+def is_page(text, record, day, stations, lines):
+    """Whether the page is well-formed, and has the record's numbers, seal, things, locations, loans
+    with their objects, objects away, stations and last entries."""
     page = Page(text)
     good = same((page.open, page.wrong), ([], []))
-    good &= same(page.numbers(), {name: str(it) for name, it in number_rows(record, day)})
+    numbers = {name: str(it) for name, it in number_rows(record, day, lines)}
+    good &= same(page.numbers(), numbers)
     good &= same(page.locations(), list(location_rows(record)))
     things = [nodes for nodes in page.trees[""] if len(nodes) > 1]
     good &= same(sorted(things), sorted(nodes_of(record, True)))
@@ -183,13 +193,13 @@ def test_pages(room, rounds=20):
         record, files = Record.of(streams.SETUP, json_lines(number)), ["setup.csv", f"{number}.db"]
         words = ["--setup", files[0], "--store", files[1]]
         room.run("replay", *words, given=json_lines(number))
-        stations = station_rows(room.printed("stations", *words))
-        good &= is_page(room.printed("page", *words), record, None, stations)
+        page = room.printed("page", *words)
+        good &= is_page(page, record, None, room.stations(*words), room.lines(*words))
         entry, day = number % (len(record.posted) + 2), room.draws.choice(streams.DAYS)
-        upto = ["--upto", str(entry)]
-        page = room.printed("page", *words, "--on", day, *upto)
-        stations = station_rows(room.printed("stations", *words, *upto))
-        good &= is_page(page, record.upto(entry), day, stations)
+        words += ["--upto", str(entry)]
+        page = room.printed("page", *words, "--on", day)
+        stations, lines = room.stations(*words), room.lines(*words)
+        good &= is_page(page, record.upto(entry), day, stations, lines)
     return good
 
 

@@ -1,4 +1,4 @@
--- Defines the museum in numbers.
+-- Defines the museum in numbers, with its seal.
 use Rattle.std.specs.Prelude.{◌∷◌, ◌++◌, ◌-◌, [], ℕ, ℤ, List, None, Option, Some, codes, filter}
 use Rattle.std.specs.Prelude.{length, not}
 use Rattle.std.specs.List.{range_with_len}
@@ -8,6 +8,9 @@ use Rattle.posting_core.specs.Book.{Book, loans_in}
 use Rattle.reports.specs.LoanLists.{is_open}
 use Rattle.page_core.specs.Pieces.{Piece}
 use Rattle.page_core.specs.Pieces.Piece.{markup, number, text}
+use Rattle.seal_core.specs.Printing.{seal_of}
+use Rattle.seal_core.specs.Seals.{seal_text}
+use Rattle.seal_core.specs.declared.seal.Seal.{Seal}
 
 -- The number of objects in the setup. Its other things are containers.
 abbrev pub objects_in : Museum → ℕ
@@ -51,3 +54,14 @@ day_row (Some day) =
 -- All of these.
 abbrev pub numbers_row : Book → Option ℤ → List Piece
 numbers_row B on = setup_row B.museum ++ (entries_row B ++ day_row on)
+
+-- The seal of all entries.
+abbrev pub whole_seal : Book → Seal
+whole_seal B = seal_of B (length B.posted)
+
+-- Its text, as the command `seal` prints it.
+abbrev pub seal_row : Book → List Piece
+seal_row B =
+    markup (codes "<div><dt>Seal</dt><dd class=\"seal\">")
+    ∷ text (seal_text (whole_seal B))
+    ∷ markup (codes "</dd></div>\n") ∷ []

@@ -14,7 +14,7 @@ use Rattle.page_core.specs.Entries.{entry_rows}
 use Rattle.page_core.specs.Histories.{history_rows}
 use Rattle.page_core.specs.LoanObjects.{object_rows}
 use Rattle.page_core.specs.Loans.{loan_rows}
-use Rattle.page_core.specs.Numbers.{numbers_row}
+use Rattle.page_core.specs.Numbers.{numbers_row, seal_row}
 use Rattle.page_core.specs.Stations.{station_rows}
 use Rattle.page_core.specs.TreeRows.{tree_rows, unplaced_rows}
 
@@ -23,9 +23,9 @@ abbrev pub section : List ℕ → List (List Piece) → List ℕ → List Piece
 section before rows after =
     markup before ∷ (flat_map (λ row. row) rows ++ markup after ∷ [])
 
--- The museum in numbers, and the day, if one is given.
+-- The museum in numbers, the day, if one is given, and the seal.
 abbrev pub numbers : Book → Option ℤ → List Piece
-numbers B on = section HEAD.now (numbers_row B on ∷ []) NUMBERS_END.now
+numbers B on = section HEAD.now (numbers_row B on ∷ seal_row B ∷ []) NUMBERS_END.now
 
 -- Where everything is.
 abbrev pub tree : Book → List Piece

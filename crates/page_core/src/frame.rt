@@ -14,6 +14,7 @@ h2 { font-size: 1.2rem; margin: 2rem 0 0.5rem; }\n\
 dl { display: flex; flex-wrap: wrap; gap: 0.25rem 2rem; margin: 0 0 1rem; }\n\
 dt { color: #555; font-size: 0.85rem; }\n\
 dd { margin: 0; font-size: 1.4rem; font-weight: 600; }\n\
+.seal { font-size: 1rem; font-weight: 400; overflow-wrap: anywhere; }\n\
 input { font: inherit; width: 100%; box-sizing: border-box; padding: 0.4rem 0.6rem; }\n\
 ul { list-style: none; margin: 0; padding-left: 1.1rem; border-left: 1px solid #ddd; }\n\
 ul.tree { padding: 0; border: 0; }\n\

@@ -32,6 +32,7 @@ mod page;
 mod past_page;
 mod rows;
 mod script;
+mod seal;
 mod selection;
 mod stations;
 mod tables;

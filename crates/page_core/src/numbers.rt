@@ -1,17 +1,18 @@
-//! The museum in numbers.
+//! The museum in numbers, with its seal.
 ghost use Rattle.std.specs.Prelude.{◌≡◌, IfOk, string_bytes};
 ghost use Rattle.page_core.specs.Pieces.{page_text};
 ghost use Rattle.page_core.specs.Numbers.{day_row, entries_row, numbers_row, setup_row};
 
 use crate::counts::{objects_of, open_loans};
 use crate::rows::Rows;
+use crate::seal::seal_row;
 use crate::values::escaped_day;
 use codes_core::{Day, NoMemory};
 use nest_core::Setup;
 use posting_core::Ledger;
 use std::alloc::Global;
 
-/// The one row with the numbers of a record.
+/// Two rows: the numbers of a record, and its seal.
 #[derive(Drop)]
 pub(crate) struct Numbers<'a> {
     pub ledger: &'a Ledger,
@@ -22,16 +23,21 @@ pub(crate) struct Numbers<'a> {
 impl<'a> Rows for Numbers<'a> {
     ghost use Rattle.std.specs.Prelude.{◌∷◌, []};
     ghost use Rattle.page_core.specs.Pieces.{page_text};
-    ghost use Rattle.page_core.specs.Numbers.{numbers_row};
+    ghost use Rattle.page_core.specs.Numbers.{numbers_row, seal_row};
 
-    ghost texts = { λ s. page_text (numbers_row s.ledger.now s.on) ∷ [] };
+    ghost texts = { λ s.
+        page_text (numbers_row s.ledger.now s.on) ∷ page_text (seal_row s.ledger.now) ∷ [] };
 
     fn len(&self) -> usize {
-        1
+        2
     }
 
-    fn row(&self, alloc: Global, _i: usize) -> Result<String, NoMemory> {
-        numbers_row(alloc, self.ledger, self.on)
+    fn row(&self, alloc: Global, i: usize) -> Result<String, NoMemory> {
+        if i == 0 {
+            numbers_row(alloc, self.ledger, self.on)
+        } else {
+            seal_row(alloc, self.ledger)
+        }
     }
 }
 

@@ -87,7 +87,7 @@ fn write_posts<W: Write>(alloc: Global, ledger: &Ledger, out: &mut W) -> Result<
     write_text(out, PAGE_END)
 }
 
-/// Writes the head, the museum in numbers, and the day, if one is given.
+/// Writes the head, the museum in numbers, the day, if one is given, and the seal.
 fn write_numbers<W: Write>(
     alloc: Global,
     ledger: &Ledger,
