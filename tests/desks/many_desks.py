@@ -87,6 +87,13 @@ class ROOM(Room):
             os.killpg(process.pid, signal.SIGKILL)
             process.wait(PATIENCE)
 
+    def stop_hub(self, hub, store):
+        """Kills a hub, and waits until a command can open its store: its program can end after its
+        script."""
+        self.stop(hub)
+        words = ["pairsalder", "stations", "--setup", "museum.csv", "--store", store]
+        until(lambda: self.do(*words)[0] == 0, f"the end of the hub over {store}")
+
     def do(self, *words):
         """The status and the output of a command, with its errors."""
         ran = subprocess.run(
@@ -214,7 +221,7 @@ def test_stream(room, messages=100):
     time.sleep(0.3)
     redis(room, port=port)
     until(lambda: room.posted("one.txt") > room.messages, "messages after the broker's restart")
-    room.stop(hub)
+    room.stop_hub(hub, "one.db")
     room.script("hub.sh", url, "museum.csv", "one.db", log="one.again.txt")
     good = sent(senders) and sent(
         [room.script("send.sh", url, room.question("STORE"), log="ask.txt")]
@@ -256,7 +263,7 @@ def test_scanners(room, messages=100):
         for it in ("STORE", "PACKING")
     ]
     until(lambda: room.posted("one.txt") > room.messages // 2, "the first messages")
-    room.stop(hub)
+    room.stop_hub(hub, "one.db")
     late = [room.script("mqtt_send.sh", topic, room.feed("GALLERY"), log="GALLERY.txt")]
     good = sent(first + late)
     again = room.script(*words, log="one.again.txt")
