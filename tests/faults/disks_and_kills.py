@@ -1,5 +1,6 @@
 """Full disks and kills lose nothing that was answered, and leave nothing half done."""
 import os
+import sqlite3
 import subprocess
 import time
 
@@ -102,6 +103,8 @@ def test_files_that_may_not_grow(room):
     good &= same(len(read(room.store)[0]["posting"]), answered) and closing > 0
     wanted = 1, "", "fault file\nhelp: to.db.part cannot be written: the disk is full\n"
     good &= same(over(room, "copy", "--to", "to.db", preexec_fn=bounded(20_000)), wanted)
+    status, printed, errors = over(room, "export", "--to", "to.db", preexec_fn=bounded(20_000))
+    good &= same((status, printed), (1, "")) & same(errors.splitlines()[0], "fault file")
     print(f"{closing} runs failed at closing alone")
     return good and not os.path.exists(room.path("to.db"))
 
@@ -242,3 +245,36 @@ def test_copy_killed_at_each_call(room):
         good &= same((read(room.path("to.db")), read(room.store)), (wanted, wanted))
     print(f"{count} calls")
     return good and count > 10
+
+
+def flat_rows(path):
+    """The messages and the movements of a flat database, and whether SQLite finds it sound."""
+    conn = sqlite3.connect(path)
+    rows = [conn.execute(f"SELECT * FROM {it}").fetchall() for it in ("message", "movement")]
+    sound = conn.execute("PRAGMA integrity_check").fetchall() == [("ok",)]
+    conn.close()
+    return rows, sound
+
+
+def test_export_killed_at_each_call(room):
+    """An export is killed before each of its calls that change a file: there is no flat database or
+    a whole one, the store stays as it was, and the next export is made."""
+    library, moves, good = built(room, "kill_call.c"), to_and_fro(30), True
+    text = room.made(moves)
+    store, count = read(room.store), calls_of(room, library, "export", "--to", "to.db")
+    wanted = flat_rows(room.path("to.db"))
+    for number in range(1, count + 1):
+        for start in ("to.db", "museum.db"):
+            room.remove(start)
+        room.write("museum.db", text)
+        killed_run(room, library, number, "export", "--to", "to.db")
+        if os.path.exists(room.path("to.db")):
+            good &= same((number, flat_rows(room.path("to.db"))), (number, wanted))
+            room.remove("to.db")
+        # what was left is in nobody's way
+        good &= same(over(room, "export", "--to", "to.db"), (0, "exported 30 entries\n", ""))
+        good &= same((flat_rows(room.path("to.db")), read(room.store)), (wanted, store))
+        left = [name for name in os.listdir(room.folder) if name.startswith("to.db.")]
+        good &= same((number, left), (number, []))
+    print(f"{count} calls")
+    return good and wanted[1] and len(wanted[0][0]) == 30 and count > 10

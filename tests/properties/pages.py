@@ -10,7 +10,7 @@ import subprocess
 from common.museum import MuseumRoom
 from common.room import Skipped, same
 from oracle import streams
-from oracle.book import chain, is_container
+from oracle.book import chain, is_container, targets
 from oracle.reports import Record
 from oracle.seals import seal_of
 from oracle.store import loans, spots
@@ -130,10 +130,13 @@ def object_rows(record):
 
 
 def location_rows(record):
-    """Each thing's locations."""
+    """Each location of a thing, in the order of the entries, with its containers and its message."""
     things, places = record.museum.things, list(record.museum.inside)
-    for thing, _, entry, at, _ in sorted(spots(record.museum, record.posted)):
-        yield [things[thing], entry, record.posted[entry - 1].message["day"], places[at]]
+    found = sorted(spots(record.museum, record.posted), key=lambda spot: (spot[2], spot[0]))
+    for thing, _, number, at, _ in found:
+        entry, above = record.posted[number - 1], chain(targets(record.posted[:number]), things[thing])
+        where = [things[thing], number, entry.message["day"], places[at], " ".join(above)]
+        yield [*where, entry.station, entry.n]
 
 
 def number_rows(record, day, lines):

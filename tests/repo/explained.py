@@ -55,6 +55,7 @@ REPLIES = [
 REPLIES += [
     "signed off",
     "copied",
+    "exported",
     "migrated",
     "grown",
     "grew",

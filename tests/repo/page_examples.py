@@ -57,7 +57,7 @@ PAGES = {
     "USING": {"": None, "A day's messages": "days"},
 }
 # the blocks that a page says to save: how each begins, and the name of its file
-SAVED = {"import hashlib": "seal.py", "CREATE TEMP VIEW": "names.sql"}
+SAVED = {"import hashlib": "seal.py"}
 
 
 def blocks(page):
@@ -92,10 +92,8 @@ def queries(lines):
 
 
 def answered(folder, query):
-    """The rows that a query finds in the copy, on the views of names.sql, as sqlite3 prints them."""
-    names = pathlib.Path(folder, "names.sql").read_text(encoding="utf-8")
-    with contextlib.closing(sqlite3.connect(f"file:{folder}/copy.db?immutable=1", uri=True)) as it:
-        it.executescript(names)
+    """The rows that a query finds in the flat database, as sqlite3 prints them."""
+    with contextlib.closing(sqlite3.connect(f"{folder}/flat.db")) as it:
         found, printed = it.execute(query), io.StringIO()
         heading = [column[0] for column in found.description]
         csv.writer(printed, lineterminator="\n").writerows([heading, *found])

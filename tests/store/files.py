@@ -91,7 +91,8 @@ def test_asking_creates_nothing(room):
     good &= same(
         over(room, "migrate", "none.db"), refused("none.db", MISSING, "store OtherVersion")
     )
-    good &= same(over(room, "copy", "none.db", "--to", "to.db"), refused("none.db", MISSING))
+    for command in ("copy", "export"):
+        good &= same(over(room, command, "none.db", "--to", "to.db"), refused("none.db", MISSING))
     return good and same(sorted(names(room)), ["list.csv", "setup.csv"])
 
 
@@ -133,6 +134,7 @@ def test_log_without_its_database(room):
         "replay": [],
         "migrate": [],
         "copy": ["--to", "to.db"],
+        "export": ["--to", "to.db"],
         "serve": ["setup.csv", "setup.csv"],
     }
     good = len(before["museum.db-wal"]) > 4096
@@ -246,6 +248,7 @@ def test_another_program(room):
             "replay": [],
             "migrate": [],
             "copy": ["--to", "to.db"],
+            "export": ["--to", "to.db"],
         }.items():
             # it doesn't wait for the other program, which doesn't end
             good &= same(over(room, command, "museum.db", *more), in_use)

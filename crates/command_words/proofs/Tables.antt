@@ -29,6 +29,7 @@ is_simple name.Copy = refl
 is_simple name.Seal = refl
 is_simple name.Receipt = refl
 is_simple name.Page = refl
+is_simple name.Export = refl
 is_simple name.Grow = refl
 is_simple name.Setup = refl
 is_simple name.Explain = refl
@@ -62,6 +63,7 @@ is_plain name.Copy = refl
 is_plain name.Seal = refl
 is_plain name.Receipt = refl
 is_plain name.Page = refl
+is_plain name.Export = refl
 is_plain name.Grow = refl
 is_plain name.Setup = refl
 is_plain name.Explain = refl
@@ -94,9 +96,9 @@ simple_overview app e = ap is_simple_and_free e ∙ overview_is_simple
 abbrev pub all : List Name
 all = name.Replay ∷ name.Serve ∷ name.Desk ∷ name.Lines ∷ name.Check ∷ name.Gap ∷ name.Resend
     ∷ name.Count ∷ name.Audit ∷ name.Overdue ∷ name.Away ∷ name.History ∷ name.Migrate
-    ∷ name.Copy ∷ name.Seal ∷ name.Receipt ∷ name.Page ∷ name.Grow ∷ name.Setup ∷ name.Explain
-    ∷ name.Stations ∷ name.Where ∷ name.Contents ∷ name.Loan ∷ name.At ∷ name.Posted ∷ name.Loans
-    ∷ name.Dues ∷ name.Why ∷ []
+    ∷ name.Copy ∷ name.Seal ∷ name.Receipt ∷ name.Page ∷ name.Export ∷ name.Grow ∷ name.Setup
+    ∷ name.Explain ∷ name.Stations ∷ name.Where ∷ name.Contents ∷ name.Loan ∷ name.At ∷ name.Posted
+    ∷ name.Loans ∷ name.Dues ∷ name.Why ∷ []
 
 all_is_overview : with_commands program_alone all ≡ overview
 unfolding app_by
@@ -144,6 +146,7 @@ app_is name.Copy = refl
 app_is name.Seal = refl
 app_is name.Receipt = refl
 app_is name.Page = refl
+app_is name.Export = refl
 app_is name.Grow = refl
 app_is name.Setup = refl
 app_is name.Explain = refl

@@ -6,7 +6,8 @@ use Rattle.clap.specs.Words.{Text, matches_of, new_app}
 use Rattle.clap.proofs.OnLiterals.{clap_on_literals}
 use Rattle.clap.specs.declared.error.kind.ErrorKind.TheVariants.{ArgumentConflict, InvalidValue}
 use Rattle.clap.specs.declared.error.kind.ErrorKind.TheVariants.{UnknownArgument}
-use Rattle.command_words.specs.Commands.{away, copy, explain, grow, help, posted, print_setup}
+use Rattle.command_words.specs.Commands.{away, copy, explain, export, grow, help}
+use Rattle.command_words.specs.Commands.{posted, print_setup}
 use Rattle.command_words.specs.Commands.{register_app, replay, report_app, serve}
 use Rattle.command_words.specs.Tables.{with_arguments}
 use Rattle.command_words.specs.Words.{form_named, format_in, is_given, lacks, refusals}
@@ -114,6 +115,19 @@ copy_to = refl
 pub copy_has_all : lacks (form_named copy_words) copy_words ≡ false
 unfolding clap_on_literals register_app report_app
 copy_has_all = refl
+
+-- export --setup a --store b --to c, and without the new file
+abbrev export_words : List Text
+export_words = codes "export" ∷ codes "--setup=a" ∷ codes "--store=b" ∷ []
+
+pub export_to : value export.app (export_words ++ codes "--to" ∷ codes "c" ∷ []) (codes "to")
+    ≡ Some (codes "c")
+unfolding clap_on_literals register_app report_app
+export_to = refl
+
+pub export_needs_file : lacks (form_named export_words) export_words ≡ true
+unfolding clap_on_literals register_app report_app
+export_needs_file = refl
 
 -- away --setup a --store b, as plain lines, as comma-separated values, as JSON, as a table
 abbrev away_words : List Text

@@ -1,4 +1,4 @@
--- Defines the twenty-nine commands: the arguments that `clap` knows of each, and the values that
+-- Defines the thirty-one commands: the arguments that `clap` knows of each, and the values that
 -- each needs.
 use Rattle.std.specs.Prelude.{◌∷◌, [], ℕ, Bool, List, None, Option, Some, codes, map, true, false}
 use Rattle.clap.specs.Words.{App, Rule, Text, new_app, new_rule, with_rule}
@@ -182,6 +182,11 @@ receipt =
 abbrev pub page : Form
 page = both_needed (with_options (register_app (codes "page")) (codes "on" ∷ codes "upto" ∷ []))
 
+-- The record as a flat database, in a new file.
+abbrev pub export : Form
+export =
+    all_needed (with_rule (register_app (codes "export")) (option_rule (codes "to"))) (codes "to")
+
 abbrev pub grow : Form
 grow = both_needed (with_rule (register_app (codes "grow")) (flag_rule (codes "check")))
 
@@ -251,8 +256,8 @@ why = report
 -- The commands other than `help`.
 abbrev pub listed : List Form
 listed = replay ∷ serve ∷ desk ∷ lines ∷ check_files ∷ gap ∷ resend ∷ count ∷ audit ∷ overdue
-    ∷ away ∷ history ∷ migrate ∷ copy ∷ seal ∷ receipt ∷ page ∷ grow ∷ print_setup ∷ explain
-    ∷ stations ∷ where_is ∷ contents ∷ loan ∷ at ∷ posted ∷ loans ∷ dues ∷ why ∷ []
+    ∷ away ∷ history ∷ migrate ∷ copy ∷ seal ∷ receipt ∷ page ∷ export ∷ grow ∷ print_setup
+    ∷ explain ∷ stations ∷ where_is ∷ contents ∷ loan ∷ at ∷ posted ∷ loans ∷ dues ∷ why ∷ []
 
 abbrev pub commands : List Form
 commands = help ∷ listed

@@ -2,7 +2,7 @@
 use Rattle.std.specs.Prelude.{◌∷◌, [], List}
 use Rattle.clap.specs.Words.{App, Rule, Text, with_rule, with_subcommand}
 use Rattle.command_words.specs.Commands.{Form, at, audit, away, check_files, contents, copy, count}
-use Rattle.command_words.specs.Commands.{explain, file_rule, gap, lines, resend}
+use Rattle.command_words.specs.Commands.{explain, export, file_rule, gap, lines, resend}
 use Rattle.command_words.specs.Commands.{desk, dues, flag_rule, grow, loans, print_setup, why}
 use Rattle.command_words.specs.Commands.{help, history, loan, migrate, option_rule, overdue, posted}
 use Rattle.command_words.specs.Commands.{page, receipt, replay, seal, serve, stations, where_is}
@@ -50,6 +50,7 @@ app_by name.Copy = copy.app
 app_by name.Seal = seal.app
 app_by name.Receipt = receipt.app
 app_by name.Page = page.app
+app_by name.Export = export.app
 app_by name.Grow = grow.app
 app_by name.Setup = print_setup.app
 app_by name.Explain = explain.app
@@ -83,6 +84,7 @@ form_by name.Copy = copy
 form_by name.Seal = seal
 form_by name.Receipt = receipt
 form_by name.Page = page
+form_by name.Export = export
 form_by name.Grow = grow
 form_by name.Setup = print_setup
 form_by name.Explain = explain

@@ -20,7 +20,7 @@ use Rattle.clap.specs.declared.error.kind.ErrorKind.TheVariants.{DisplayVersion,
 use Rattle.command_words.specs.Commands.{Form, at, audit, away, check_files, commands, contents}
 use Rattle.command_words.specs.Commands.{copy, count, desk, gap, lines, resend}
 use Rattle.command_words.specs.Commands.{help, history, loan, migrate, overdue, overview, posted}
-use Rattle.command_words.specs.Commands.{explain, page, receipt, replay, seal, serve}
+use Rattle.command_words.specs.Commands.{explain, export, page, receipt, replay, seal, serve}
 use Rattle.command_words.specs.Commands.{dues, grow, loans, print_setup, stations, where_is, why}
 use Rattle.command_words.specs.declared.command.Report.{Report}
 use Rattle.command_words.specs.declared.command.Format.{Format}
@@ -248,6 +248,10 @@ IsChosen words (command.Page setup store on upto) = IsNamed words (codes "page")
     × (value page.app words (codes "store") ≡ Some store.now)
     × (value page.app words (codes "on") ≡ text_of on)
     × (value page.app words (codes "upto") ≡ text_of upto)
+IsChosen words (command.Export setup store to) = IsNamed words (codes "export")
+    × (value export.app words (codes "setup") ≡ Some setup.now)
+    × (value export.app words (codes "store") ≡ Some store.now)
+    × (value export.app words (codes "to") ≡ Some to.now)
 IsChosen words (command.Grow setup store check) = IsNamed words (codes "grow")
     × (value grow.app words (codes "setup") ≡ Some setup.now)
     × (value grow.app words (codes "store") ≡ Some store.now)

@@ -100,6 +100,13 @@ pub(crate) const TO: Argument = Argument {
     help: "The new file for the copy",
 };
 
+pub(crate) const FLAT_FILE: Argument = Argument {
+    kind: Kind::Valued,
+    id: "to",
+    value: "PATH",
+    help: "The new SQLite database",
+};
+
 pub(crate) const CHECK: Argument = Argument {
     kind: Kind::Flag,
     id: "check",

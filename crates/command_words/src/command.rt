@@ -223,6 +223,12 @@ pub enum Chosen<'a> {
         on: Option<&'a str>,
         upto: Option<&'a str>,
     },
+    /// Writes the record to a new SQLite database, for other programs.
+    Export {
+        setup: &'a str,
+        store: &'a str,
+        to: &'a str,
+    },
     /// Adds what the setup file lists to the store's setup. With `check` it prints what it would
     /// add, and changes nothing.
     Grow {

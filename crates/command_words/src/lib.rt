@@ -1,7 +1,7 @@
 //! Reads the words of a command line, returns the command that they choose, and has the texts of
 //! the help.
 //!
-//! [`words::chosen`] returns a [`Chosen`]: one of twenty-nine commands with its values, among them
+//! [`words::chosen`] returns a [`Chosen`]: one of thirty-one commands with its values, among them
 //! the [`Format`] of a report. `clap` does the reading; a [`WordsFault`] carries its error and has
 //! the program's exit status. [`completion::complete`] adds a default setup and store to the words,
 //! and [`needs::list_missing`] lists the arguments that they lack. [`desk::asked`] reads the words

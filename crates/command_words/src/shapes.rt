@@ -7,9 +7,9 @@ ghost use Rattle.command_words.specs.Tables.{app_by, form_by, with_arguments};
 ghost use Rattle.command_words.specs.Words.{form_named, needed_in, texts_of};
 
 use crate::arguments::{
-    BELL, BY, CARDS, CHECK, CONTAINER, DAY, DUE, ENTRY, EXPLAINED, FEEDS, FIRST_DAY, FROM, LABELS,
-    LIST, LOAN, LOG, LONG, MARKED_DAY, OF_LOAN, OF_THING, ON, OPEN, OWN_STATION, PLACE, PROGRESS,
-    REFUSED, SEALED, STATION, STRICT, THING, TO, TO_ENTRY, TOPIC, WORD,
+    BELL, BY, CARDS, CHECK, CONTAINER, DAY, DUE, ENTRY, EXPLAINED, FEEDS, FIRST_DAY, FLAT_FILE,
+    FROM, LABELS, LIST, LOAN, LOG, LONG, MARKED_DAY, OF_LOAN, OF_THING, ON, OPEN, OWN_STATION,
+    PLACE, PROGRESS, REFUSED, SEALED, STATION, STRICT, THING, TO, TO_ENTRY, TOPIC, WORD,
 };
 use crate::options::{Argument, CSV, JSON, SETUP, STORE, TABLE, UPTO, made, with_help};
 use crate::preparation_arguments::{
@@ -46,6 +46,7 @@ pub(crate) enum Name {
     Seal,
     Receipt,
     Page,
+    Export,
     Grow,
     Setup,
     Explain,
@@ -62,7 +63,7 @@ pub(crate) enum Name {
 }
 
 /// The commands in the order of the help. `help` is left out, because `clap` adds it.
-const NAMES: [Name; 29] = [
+const NAMES: [Name; 30] = [
     Name::Replay,
     Name::Serve,
     Name::Desk,
@@ -80,6 +81,7 @@ const NAMES: [Name; 29] = [
     Name::Seal,
     Name::Receipt,
     Name::Page,
+    Name::Export,
     Name::Grow,
     Name::Setup,
     Name::Explain,
@@ -116,6 +118,7 @@ fn word_of(name: Name) -> &'static str
         Name::Seal => "seal",
         Name::Receipt => "receipt",
         Name::Page => "page",
+        Name::Export => "export",
         Name::Grow => "grow",
         Name::Setup => "setup",
         Name::Explain => "explain",
@@ -193,7 +196,7 @@ fn needs_of(name: Name) -> &'static [&'static str]
         Name::Dues => &["setup", "store", "by"],
         Name::Why => &["setup", "store", "entry"],
         Name::History | Name::Where | Name::Contents | Name::Loan => &["setup", "store", "code"],
-        Name::Copy => &["setup", "store", "to"],
+        Name::Copy | Name::Export => &["setup", "store", "to"],
         Name::Seal | Name::Page => &["setup", "store"],
         Name::Receipt => &["setup", "store", "entry"],
         Name::Explain => &["name"],
@@ -222,6 +225,7 @@ fn help_of(name: Name) -> &'static Help {
         Name::Seal => &sealing_texts::SEAL,
         Name::Receipt => &sealing_texts::RECEIPT,
         Name::Page => &texts::PAGE,
+        Name::Export => &texts::EXPORT,
         Name::Grow => &texts::GROW,
         Name::Setup => &texts::SETUP,
         Name::Explain => &texts::EXPLAIN,
@@ -284,6 +288,7 @@ fn arguments_of(name: Name) -> &'static [Argument]
         Name::Seal => &[SETUP, STORE, SEALED_ENTRIES, SEALS],
         Name::Receipt => &[SETUP, STORE, SEALED_ENTRIES, RECEIPT_FILE, SEALED_ENTRY],
         Name::Page => &[SETUP, STORE, MARKED_DAY, UPTO],
+        Name::Export => &[SETUP, STORE, FLAT_FILE],
         Name::Grow => &[SETUP, STORE, CHECK],
         Name::Setup => &[STORE],
         Name::Explain => &[WORD],

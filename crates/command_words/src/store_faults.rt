@@ -2,7 +2,8 @@
 
 use crate::Meaning;
 
-/// The faults of a store, and the words `copied`, `migrated`, `grown`, `grew` and `note`.
+/// The faults of a store, and the words `copied`, `exported`, `migrated`, `grown`, `grew` and
+/// `note`.
 pub(crate) const STORE_FAULTS: &[Meaning] = &[
     Meaning {
         word: "Store",
@@ -36,6 +37,12 @@ pub(crate) const STORE_FAULTS: &[Meaning] = &[
         means: "the copy is complete, with this many entries",
         cause: "the copy was read back, and every entry was compared.",
         action: "nothing.",
+    },
+    Meaning {
+        word: "exported",
+        means: "the flat database is complete, with this many entries",
+        cause: "the file got its name after the last row was written.",
+        action: "nothing. Open the file with a program that reads SQLite.",
     },
     Meaning {
         word: "migrated",

@@ -156,17 +156,42 @@ pub(crate) const PAGE: Help = Help {
 For anyone who wants to look at the record and doesn't have the program. The
 page is one file of HTML. Any browser shows it, also offline, and prints it.
 
-The page has the museum in numbers, and then each place with the containers and
-the objects at it. Click a place or a container to open it, and a thing to see
-where it has been, or type part of a code into the search box. Then come the
-loans, with their objects and a time line; with --on, those that are overdue on
-DAY are marked. With --upto, the page shows the record as it was after entry N.
+The page begins with the museum in numbers and the record's seal. Then comes
+each place with the containers and the objects at it. Click a place or a
+container to open it. Click a thing to see each of its locations with the day,
+the containers, and the station and the number of the message. Or type part of a
+code into the search box. Then come the loans, with their objects and a time
+line; with --on, those that are overdue on DAY are marked. With --upto, the page
+shows the record as it was after entry N.
 
 Example:
   pairsalder page --setup museum.csv --store museum.db > museum.html
 
 Exit status: 0 the page was printed; 1 a fault; 2 a usage error, or DAY is not a
 day.",
+};
+
+pub(crate) const EXPORT: Help = Help {
+    about: "Writes the record to a flat SQLite database, for other programs",
+    usage: "pairsalder export --setup PATH --store PATH --to PATH",
+    more: "\
+For a spreadsheet program, Datasette or a script: the record as tables, in one
+SQLite database.
+
+The tables are place, thing, movement, message, loan and loan_object, with
+codes, names and ISO days. The views are overdue and away. The file is a copy to
+read: the record doesn't change, and no command can open the file as a store.
+
+The file gets its name only when it is complete. Never overwrites: fails if PATH
+exists.
+
+Prints the number of entries: 'exported 80000 entries'.
+
+Example:
+  pairsalder export --setup museum.csv --store museum.db --to flat.db
+
+Exit status: 0 the file is complete; 1 a fault, and no file was created under
+that name; 2 a usage error.",
 };
 
 pub(crate) const GROW: Help = Help {

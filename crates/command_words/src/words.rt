@@ -64,6 +64,7 @@ fn named<'a>(alloc: Global, name: Name, words: &'a [&'a str]) -> Result<Chosen<'
         Name::Seal => seal(alloc, words),
         Name::Receipt => receipt(alloc, words),
         Name::Page => page(alloc, words),
+        Name::Export => export(alloc, words),
         Name::Grow => grow(alloc, words),
         Name::Setup => print_setup(alloc, words),
         Name::Explain => explain(alloc, words),
@@ -223,6 +224,22 @@ fn page<'a>(alloc: Global, words: &'a [&'a str]) -> Result<Chosen<'a>, WordsFaul
         store: record.store,
         on,
         upto,
+    })
+}
+
+fn export<'a>(alloc: Global, words: &'a [&'a str]) -> Result<Chosen<'a>, WordsFault>
+    requires { IsNamed (texts_of words.now) (codes "export") }
+    ensures { Chooses (Some commands.export) (texts_of words.now) result }
+{
+    let matches = read(alloc, Name::Export, words)?;
+    let files = files_of(&matches);
+    let target = one(&matches, "to");
+    drop(matches);
+    let record = record_of(files)?;
+    Ok(Chosen::Export {
+        setup: record.setup,
+        store: record.store,
+        to: needed(target)?,
     })
 }
 

@@ -9,7 +9,7 @@ use Rattle.command_words.specs.declared.command.Chosen.TheVariants.{Grow, Setup,
 use Rattle.command_words.specs.declared.command.Chosen.TheVariants.{Cards, Desk, Help}
 use Rattle.command_words.specs.declared.command.Chosen.TheVariants.{Lines, Check, Gap, Resend}
 use Rattle.command_words.specs.declared.command.Chosen.TheVariants.{Audit, CheckReceipt, Receipt}
-use Rattle.command_words.specs.declared.command.Chosen.TheVariants.{Page, Seal}
+use Rattle.command_words.specs.declared.command.Chosen.TheVariants.{Export, Page, Seal}
 use Rattle.hub_core.specs.declared.outcome.Outcome.{Outcome}
 use Rattle.hub_program.specs.declared.ending.Ending.{Ending}
 use Rattle.hub_program.specs.declared.ending.Ending.TheVariants.{Done, NotApplied, Printed}
@@ -47,6 +47,7 @@ store_of (Seal setup store upto check) = Some store.now
 store_of (Receipt setup store entry upto) = Some store.now
 store_of (CheckReceipt file entry upto) = None
 store_of (Page setup store on upto) = Some store.now
+store_of (Export setup store to) = Some store.now
 store_of (Grow setup store check) = Some store.now
 store_of (Setup store) = Some store.now
 store_of (Report report asked) = Some report.store.now

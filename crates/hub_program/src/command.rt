@@ -10,6 +10,7 @@ use crate::desk::at_desk;
 use crate::desk_files::no_log;
 use crate::ending::{Ending, noted_status, refuse, status};
 use crate::explain::explain;
+use crate::exporting::exported;
 use crate::fault::CommandFault;
 use crate::files::read_setup;
 use crate::gap::{GapWords, fill_gap};
@@ -199,6 +200,10 @@ fn perform<
                 upto: *upto,
             };
             let closed = give_page(rt, wanted, start, output)?;
+            Ok(Ending::Done(Some(closed)))
+        }
+        Chosen::Export { setup, store, to } => {
+            let closed = exported(rt, setup, store, to, start, again, output)?;
             Ok(Ending::Done(Some(closed)))
         }
         Chosen::Grow {

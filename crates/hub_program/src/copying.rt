@@ -1,10 +1,11 @@
 //! Copies a store to one new file, and checks the copy.
 ghost use Rattle.std.specs.Prelude.{◌≡◌, IfOk, IsTrue};
 
-use crate::advice::{Advice, folder_of, on_target};
+use crate::advice::Advice;
 use crate::fault::CommandFault;
 use crate::files::read_setup;
 use crate::judging::judged_and_closed;
+use crate::part::{open_part, part_of, publish, refuse_target, unwritten};
 use crate::store::{Begins, ClosedStore, OpenStore, open};
 use nest_core::Setup;
 use posting_core::Ledger;
@@ -12,10 +13,8 @@ use register_store::{Register, StoreFault};
 use sqlite::{Files, Start};
 use sqlite_disk::Disk;
 use std::alloc::Global;
-use std::fs::{File, OpenOptions, TryLockError};
-use std::io::{ErrorKind, Write};
-use std::os::unix::fs::OpenOptionsExt;
-use std::{fs, io};
+use std::fs::File;
+use std::io::Write;
 use work_core::{PourFault, opens_to, pour};
 
 /// Copies the record of a store to a new file, and prints how many entries it has.
@@ -51,7 +50,7 @@ pub fn copied<'a, S: Start, U: Start, W: Write>(
     refuse_target(rt, to)?;
     let store = open(rt, path, start, Begins::Nothing)?;
     let (ledger, mut files, closed) = judged_and_closed(rt, setup, store)?;
-    let part = format!(in alloc; "{to}.part")?;
+    let part = part_of(alloc, to)?;
     let held = write_part(rt, path, &part, &mut files)?;
     drop(files);
     compare(rt, &part, again, ledger.setup().copy()?, &ledger)?;
@@ -63,22 +62,6 @@ pub fn copied<'a, S: Start, U: Start, W: Write>(
         Ok(()) => Ok(closed),
         Err(_) => Err(CommandFault::WriteFailed),
     }
-}
-
-/// Fails if the target exists, or a log beside it. The log would be taken for the copy's.
-fn refuse_target(rt: &HostRuntime, to: &str) -> Result<(), CommandFault> {
-    let alloc = rt.alloc();
-    let log = format!(in alloc; "{to}-wal")?;
-    for path in [to, log.as_str()] {
-        match fs::symlink_metadata(rt, path) {
-            Err(error) if error.kind() == ErrorKind::NotFound => {}
-            _ => {
-                let advice = format!(in alloc; "{path} already exists: choose another name");
-                return Err(CommandFault::File(advice.ok()));
-            }
-        }
-    }
-    Ok(())
 }
 
 /// Writes the bytes of the database file to the part file, and syncs it. The returned file is
@@ -102,41 +85,6 @@ fn write_part<D: Disk>(
         Ok(()) => Ok(file),
         Err(error) => Err(unwritten(rt, part, error.kind())),
     }
-}
-
-/// Opens an empty part file, with the store's permissions if they can be set. A part file that an
-/// interrupted copy left behind is reused, and its log is removed.
-fn open_part(rt: &HostRuntime, store: &str, part: &str) -> Result<File, CommandFault> {
-    let alloc = rt.alloc();
-    let opened = OpenOptions::new()
-        .read(true)
-        .write(true)
-        .create(true)
-        .mode(0o600)
-        .open(rt, part);
-    let file = match opened {
-        Ok(file) => file,
-        Err(error) => return Err(unwritten(rt, part, error.kind())),
-    };
-    if let Err(TryLockError::WouldBlock) = file.try_lock() {
-        let advice = format!(in alloc; "another copy writes {part}: wait for it to end");
-        return Err(CommandFault::File(advice.ok()));
-    }
-    let _ = fs::remove_file(rt, format!(in alloc; "{part}-wal")?.as_str());
-    match emptied(rt, store, &file) {
-        Ok(()) => Ok(file),
-        Err(error) => Err(unwritten(rt, part, error.kind())),
-    }
-}
-
-/// Empties the part file, and gives it the store's permissions. A file system without permissions,
-/// for example on a memory stick, cannot set them. The copy then keeps the permissions that it has.
-fn emptied(rt: &HostRuntime, store: &str, file: &File) -> io::Result<()> {
-    file.set_len(0)?;
-    if let Ok(found) = fs::metadata(rt, store) {
-        let _ = file.set_permissions(found.permissions());
-    }
-    Ok(())
 }
 
 /// Opens the part file as a store, and compares its record with the ledger.
@@ -194,26 +142,4 @@ fn compared<R: Register>(
 /// The advice on a copy that differs from the record.
 fn on_difference(rt: &HostRuntime, part: &str) -> Advice {
     format!(in rt.alloc(); "{part} differs from the record: the disk may be failing").ok()
-}
-
-/// Renames the part file to the target, and syncs the folder.
-fn publish(rt: &HostRuntime, part: &str, to: &str) -> Result<(), CommandFault> {
-    refuse_target(rt, to)?;
-    match renamed(rt, part, to) {
-        Ok(()) => Ok(()),
-        Err(error) => Err(unwritten(rt, to, error.kind())),
-    }
-}
-
-fn renamed(rt: &HostRuntime, part: &str, to: &str) -> io::Result<()> {
-    fs::rename(rt, part, to)?;
-    File::open(rt, folder_of(to))?.sync_all()
-}
-
-/// The fault of a copy that cannot be written.
-fn unwritten(rt: &HostRuntime, path: &str, kind: ErrorKind) -> CommandFault {
-    match kind {
-        ErrorKind::OutOfMemory => CommandFault::NoMemory,
-        _ => CommandFault::File(on_target(rt.alloc(), path, kind)),
-    }
 }

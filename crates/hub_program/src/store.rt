@@ -13,9 +13,9 @@ ghost use Rattle.register_store.specs.Holdings.{Comes};
 ghost use Rattle.register_store.specs.StoredRows.{AreSame};
 ghost use Rattle.hub_program.specs.Places.{IsRecordIn, IsKeptAlone, IsMigratedAndKept, grown_by};
 
-mod advice;
+pub mod advice;
 mod blank;
-mod paths;
+pub mod paths;
 
 use crate::advice::Advice;
 use crate::fault::CommandFault;

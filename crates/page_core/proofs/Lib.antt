@@ -1,13 +1,10 @@
 pub mod Counting
-pub mod NumberedRows
-pub mod Ranges
 pub mod Sections
 pub mod TreeLines
 pub mod TreeOnce
 pub mod TreeWithin
 mod WorkedTables
 mod WorkedTree
-pub mod WrittenText
 pub mod Bytes
 pub mod Characters
 mod Worked

@@ -1,16 +1,17 @@
 -- The text of a section, and of one after another.
-use Rattle.std.proofs.Common.{◌≡◌, ◌∙◌, ℕ, ◌++◌, ◌∷◌, [], List, Option, Result, ap, map}
-use Rattle.std.proofs.Common.{refl, subst, sym}
+use Rattle.std.proofs.Common.{◌≡◌, ◌<◌, ◌∙◌, ℕ, ◌+◌, ◌-◌, ◌++◌, ◌∷◌, [], List, Option, Result}
+use Rattle.std.proofs.Common.{ap, arith, map, refl, subst, sym}
 use Rattle.std.specs.Io.KnownBytes.{Appends}
-use Rattle.std.specs.List.{flat_map}
+use Rattle.std.specs.List.{flat_map, range_with_len}
 use Rattle.std.proofs.lemmas.Grind.{flat_map-append}
 use Rattle.std.proofs.lemmas.List.{append-nil}
 use Rattle.page_core.specs.Pieces.{Piece, page_text, piece_text}
 use Rattle.page_core.specs.Pieces.Piece.{markup}
 use Rattle.page_core.specs.Pages.{section}
 use Rattle.reports.specs.declared.fault.PrintFault.{PrintFault}
-use Rattle.page_core.specs.Writes.{Stops, Writes, rows_text}
-use Rattle.page_core.proofs.WrittenText.{stops_longer, stops_within, writes_after}
+use Rattle.section_core.specs.Writes.{Stops, Writes, rows_text}
+use Rattle.section_core.proofs.WrittenText.{stops_longer, stops_within, writes_after}
+use Rattle.section_core.proofs.Ranges.{flat_more, range_parts}
 
 rows-text : (rows : List (List Piece))
     → page_text (flat_map (λ row. row) rows) ≡ rows_text (map page_text rows)
@@ -82,3 +83,18 @@ pub then_rest : (a b c : Option (List ℕ)) (r : Result Unit PrintFault) (one re
 then_rest a b c r one rest p q =
     subst (Writes a c r) (sym (sections-text one rest))
     (writes_after a b c r (page_text one) (page_text rest) p q)
+
+-- The fault comes at the text of number i.
+pub stops_in_range : (a b c : Option (List ℕ)) (text : ℕ → List ℕ) (n i : ℕ) → i < n
+    → Appends a b (flat_map text (range_with_len 0 i)) → Stops b c (text i)
+    → Stops a c (flat_map text (range_with_len 0 n))
+stops_in_range a b c text n i lt p q =
+    let later = range_with_len (0 + (i + 1)) (n - (i + 1)) in
+    let whole : flat_map text (range_with_len 0 n)
+    ≡ (flat_map text (range_with_len 0 i) ++ text i) ++ flat_map text later
+    = ap (flat_map text) (range_parts 0 n (i + 1) (n - (i + 1)) (omega (arith, lt)))
+    ∙ (flat_map-append text (range_with_len 0 (i + 1)) later
+    ∙ ap (λ t. t ++ flat_map text later) (flat_more text i)) in
+    subst (Stops a c) (sym whole)
+    (stops_longer a c (flat_map text (range_with_len 0 i) ++ text i) (flat_map text later)
+    (stops_within a b c (flat_map text (range_with_len 0 i)) (text i) p q))

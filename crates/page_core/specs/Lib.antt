@@ -7,11 +7,9 @@ pub mod Loans
 pub mod Numbers
 pub mod Pages
 pub mod Stations
-pub mod Terms
 pub mod Tree
 pub mod TreeRows
 pub mod Values
-pub mod Writes
 pub mod Escapes
 pub mod Pieces
 pub mod Tables

@@ -1,5 +1,5 @@
 -- Defines the table of the loans.
-use Rattle.std.specs.Prelude.{ℕ, ℤ, ◌∷◌, [], Bool, List, Option, Some, codes, false}
+use Rattle.std.specs.Prelude.{ℕ, ℤ, ◌∷◌, [], Bool, List, Option, Some, codes}
 use Rattle.std.specs.Prelude.{filter, length, map}
 use Rattle.std.specs.Prelude.{if◌then◌else◌}
 use Rattle.std.specs.List.{list_any}
@@ -7,10 +7,10 @@ use Rattle.std.specs.Option.{option_map_or}
 use Rattle.std.specs.Str.{bytes_eq}
 use Rattle.posting_core.specs.Agreements.{Agreement, agreement}
 use Rattle.posting_core.specs.Book.{Book, last_day_in, loans_in}
-use Rattle.count_core.specs.Reports.{is_out_still, overdue}
+use Rattle.count_core.specs.Reports.{overdue}
 use Rattle.reports.specs.Cells.{Cell, day_if, nothing, number, text}
-use Rattle.reports.specs.LoanLists.{stage_in}
 use Rattle.reports.specs.Loans.{state_cell}
+use Rattle.section_core.specs.Terms.{is_out}
 use Rattle.page_core.specs.Pieces.{Piece, page_text}
 use Rattle.page_core.specs.Values.{values_row}
 
@@ -25,10 +25,6 @@ is_among loans loan = list_any (λ other. bytes_eq other loan) loans
 -- The word overdue, if the loan is one of these.
 abbrev pub overdue_cell : List (List ℕ) → List ℕ → Cell
 overdue_cell late loan = if is_among late loan then text (codes "overdue") else nothing
-
--- The object has left or arrived under the loan with these terms, and has not gone back.
-abbrev pub is_out : Book → Agreement → List ℕ → Bool
-is_out B t object = option_map_or is_out_still (stage_in B t object) false
 
 -- The number of the loan's objects that are not yet returned.
 abbrev pub count_out : Book → Agreement → ℕ

@@ -4,12 +4,12 @@ ghost use Rattle.std.proofs.Props.{props};
 ghost use Rattle.count_core.specs.Reports.{IsAwayIn, away};
 ghost use Rattle.page_core.specs.Away.{away_text};
 
-use crate::rows::Rows;
-use crate::values::{Value, place_if, values_row};
+use crate::values::values_row;
 use codes_core::NoMemory;
 use count_core::AwayObject;
 use nest_core::Setup;
 use posting_core::Ledger;
+use section_core::{Rows, Value, place_if};
 use std::alloc::Global;
 
 /// The objects, ascending.

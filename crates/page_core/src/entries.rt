@@ -1,14 +1,11 @@
 //! The table of the last entries.
-ghost use Rattle.std.specs.Prelude.{◌≡◌, ◌<◌, IfOk, Some, length, reverse, slice_get};
-ghost use Rattle.std.specs.Prelude.{string_bytes};
-ghost use Rattle.reports.specs.Texts.{station_text};
+ghost use Rattle.std.specs.Prelude.{◌≡◌, ◌<◌, IfOk, length, string_bytes};
 ghost use Rattle.page_core.specs.Entries.{entry_text};
 
-use crate::rows::Rows;
-use crate::values::{Value, values_row};
+use crate::values::values_row;
 use codes_core::NoMemory;
-use nest_core::{Setup, StationNo};
-use posting_core::{Ledger, PostedEntry};
+use posting_core::Ledger;
+use section_core::{Rows, Value, entry_at, station_name};
 use std::alloc::Global;
 
 /// The most entries that the page shows.
@@ -50,23 +47,4 @@ fn entry_row(alloc: Global, ledger: &Ledger, later: usize) -> Result<String, NoM
         Value::Word(entry.verdict().name()),
     ];
     values_row(alloc, &values)
-}
-
-/// The entry at this index, from 0.
-fn entry_at(ledger: &Ledger, at: usize) -> &PostedEntry
-    requires { at < length ledger.now.posted }
-    ensures { slice_get (reverse ledger.entry.now.posted) at ≡ Some result.now }
-{
-    &ledger.posted()[at]
-}
-
-/// The name of a station. Empty if the setup doesn't have the station.
-fn station_name(setup: &Setup, station: StationNo) -> &str
-    ensures { result.now ≡ station_text setup.entry.now station }
-{
-    if station < setup.stations() {
-        setup.station_name(station)
-    } else {
-        ""
-    }
 }

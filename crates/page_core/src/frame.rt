@@ -32,7 +32,7 @@ th, td { padding: 0.2rem 1rem 0.2rem 0; text-align: left; white-space: nowrap; }
 th { color: #555; font-size: 0.85rem; font-weight: 400; }\n\
 td { border-top: 1px solid #ddd; }\n\
 .loans td:last-child { font-weight: 600; }\n\
-.past { margin: 0 0 0.5rem 1.1rem; font-weight: 400; }\n\
+.past { margin: 0 0 0.5rem 1.1rem; overflow-x: auto; font-weight: 400; }\n\
 .tree li { cursor: pointer; }\n\
 #times { display: block; width: 100%; min-width: 40rem; margin: 0 0 1rem; font-size: 12px; }\n\
 #times rect { fill: #6a8fc7; }\n\
@@ -41,7 +41,7 @@ td { border-top: 1px solid #ddd; }\n\
 @media print {\n\
 body { max-width: none; font-size: 9pt; }\n\
 input, #found { display: none; }\n\
-.wide { overflow: visible; content-visibility: visible; }\n\
+.wide, .past { overflow: visible; content-visibility: visible; }\n\
 #times { min-width: 0; }\n\
 th, td { white-space: normal; }\n\
 tr { break-inside: avoid; }\n\

@@ -3,7 +3,8 @@
 //! [`write_page`] writes the page. Its contract promises each byte: it writes the text of the
 //! pieces that `specs/Pages` defines for the ledger, and after a fault only the beginning of that
 //! text. The rows of a section are made one at a time, as they are written. The page is never in
-//! memory.
+//! memory. While it writes the locations of all things, it posts the entries once more, to a second
+//! ledger: a row has the containers that the thing was in right after the entry.
 //! [`write_page_as_of`] does the same for the record as it was after an earlier entry.
 //!
 //! ```text
@@ -30,16 +31,13 @@ mod loans;
 mod numbers;
 mod page;
 mod past_page;
-mod rows;
 mod script;
 mod seal;
 mod selection;
 mod stations;
 mod tables;
-mod terms;
 mod tree;
 mod values;
-mod writing;
 
 pub use page::write_page;
 pub use past_page::write_page_as_of;

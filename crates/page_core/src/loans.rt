@@ -2,16 +2,17 @@
 ghost use Rattle.std.specs.Prelude.{◌≡◌, IfOk, map, string_bytes};
 ghost use Rattle.posting_core.specs.Book.{loans_in};
 ghost use Rattle.page_core.specs.Pieces.{page_text};
-ghost use Rattle.page_core.specs.Loans.{is_among, loan_text, loan_values, overdue_cell};
+ghost use Rattle.page_core.specs.Loans.{count_out, is_among, loan_text, loan_values};
+ghost use Rattle.page_core.specs.Loans.{overdue_cell};
 ghost use Rattle.page_core.specs.Loans.{overdue_on};
-ghost use Rattle.page_core.specs.Terms.{agreement_with};
-ghost use Rattle.page_core.specs.Values.{value_of, values_row};
+ghost use Rattle.section_core.specs.Terms.{agreement_with};
+ghost use Rattle.section_core.specs.Values.{value_of};
+ghost use Rattle.page_core.specs.Values.{values_row};
 
-use crate::rows::Rows;
-use crate::terms::{Terms, agreed_terms, count_out};
-use crate::values::{Value, day_if, state_if, values_row};
+use crate::values::values_row;
 use codes_core::{Day, LoanCode, NoMemory};
 use posting_core::Ledger;
+use section_core::{Rows, Terms, Value, agreed_terms, day_if, is_out, state_if};
 use std::alloc::Global;
 
 /// The agreed loans, in the order of their agreements, and those of them that are overdue.
@@ -120,4 +121,17 @@ fn is_among(loans: &[LoanCode], loan: &LoanCode) -> bool
     ensures { result ≡ is_among loans.now loan.now }
 {
     loans.iter().any(|other| *other == *loan)
+}
+
+/// The number of the loan's objects that have left or arrived and have not gone back.
+fn count_out(ledger: &Ledger, terms: &Terms<'_>) -> u64
+    ensures { result ≡ count_out ledger.now (agreement_with terms.now) }
+{
+    let mut count = 0;
+    for i in 0..terms.objects.len() {
+        if is_out(ledger, terms, &terms.objects[i]) {
+            count += 1;
+        }
+    }
+    count
 }

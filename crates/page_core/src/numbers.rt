@@ -4,12 +4,12 @@ ghost use Rattle.page_core.specs.Pieces.{page_text};
 ghost use Rattle.page_core.specs.Numbers.{day_row, entries_row, numbers_row, setup_row};
 
 use crate::counts::{objects_of, open_loans};
-use crate::rows::Rows;
 use crate::seal::seal_row;
 use crate::values::escaped_day;
 use codes_core::{Day, NoMemory};
 use nest_core::Setup;
 use posting_core::Ledger;
+use section_core::Rows;
 use std::alloc::Global;
 
 /// Two rows: the numbers of a record, and its seal.

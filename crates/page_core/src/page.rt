@@ -3,7 +3,7 @@ ghost use Rattle.std.specs.Prelude.{◌≡◌};
 ghost use Rattle.page_core.specs.Pieces.{page_text};
 ghost use Rattle.page_core.specs.Pages.{away, entries, histories, lending, loan_objects, loans};
 ghost use Rattle.page_core.specs.Pages.{locations, numbers, page, posts, stations, tree, unplaced};
-ghost use Rattle.page_core.specs.Writes.{Writes};
+ghost use Rattle.section_core.specs.Writes.{Writes};
 
 use crate::away::Away;
 use crate::entries::LastEntries;
@@ -11,18 +11,17 @@ use crate::frame::{
     AWAY, ENTRIES, HEAD, HISTORIES, HISTORIES_END, LOAN_OBJECTS, LOANS, NUMBERS_END, STATIONS,
     TABLE_END, TREE, TREE_END, UNPLACED,
 };
-use crate::histories::Histories;
+use crate::histories::write_spots;
 use crate::loan_objects::LoanObjects;
 use crate::loans::Loans;
 use crate::numbers::Numbers;
-use crate::rows::write_section;
 use crate::script::PAGE_END;
 use crate::stations::Stations;
 use crate::tree::Tree;
-use crate::writing::write_text;
 use codes_core::Day;
 use posting_core::Ledger;
 use reports::PrintFault;
+use section_core::{write_section, write_text};
 use std::alloc::Global;
 use std::io::Write;
 
@@ -30,8 +29,9 @@ use std::io::Write;
 /// are overdue on the day `on`; without a day, it marks none.
 ///
 /// Fails with `NoMemory` or `WriteFailed`, after the beginning of the page. It takes memory for one
-/// row at a time, for two lines of the tree for each place and each thing, and then for each
-/// overdue loan and for each object that is away from its normal location.
+/// row at a time, for two lines of the tree for each place and each thing, then for a second ledger
+/// and the rows of one entry while it writes the locations of all things, and then for each overdue
+/// loan and for each object that is away from its normal location.
 pub fn write_page<W: Write>(
     alloc: Global,
     ledger: &Ledger,
@@ -123,7 +123,7 @@ fn write_histories<W: Write>(alloc: Global, ledger: &Ledger, out: &mut W) -> Res
     ensures { Writes (W.contents out.old) (W.contents out.new) result
         (page_text (histories ledger.now)) }
 {
-    write_section(alloc, HISTORIES, &Histories { ledger }, HISTORIES_END, out)
+    write_spots(alloc, HISTORIES, ledger, HISTORIES_END, out)
 }
 
 /// Writes the loans, and marks those that are overdue on the day.

@@ -3,7 +3,7 @@ ghost use Rattle.std.specs.Prelude.{◌≡◌};
 ghost use Rattle.posting_core.specs.Past.{as_of, upto};
 ghost use Rattle.page_core.specs.Pieces.{page_text};
 ghost use Rattle.page_core.specs.Pages.{page};
-ghost use Rattle.page_core.specs.Writes.{Writes};
+ghost use Rattle.section_core.specs.Writes.{Writes};
 
 use crate::write_page;
 use codes_core::Day;
@@ -13,8 +13,8 @@ use std::alloc::Global;
 use std::io::Write;
 
 /// Writes the page of the record as it is or, with `upto`, as it was after this entry. Fails as
-/// [`write_page`] does. For an earlier record it builds a second ledger, which takes time and
-/// memory.
+/// [`write_page`] does. For an earlier record it first builds a ledger with the entries up to this
+/// one, which takes time and memory.
 pub fn write_page_as_of<W: Write>(
     alloc: Global,
     ledger: &Ledger,

@@ -1,9 +1,10 @@
 //! The script of a page.
 
 /// The script, and the end of the page. It puts each place below the place that it lies in, draws
-/// the open loans on a time line, and lists the locations of a thing when someone clicks on it. A
-/// search lists what it finds below the box and leaves the tree as it is, because to hide and show
-/// each row takes seconds on a large page.
+/// the open loans on a time line, and lists the locations of a thing when someone clicks on it,
+/// with the containers that the thing was in, and the message. A search lists what it finds below
+/// the box and leaves the tree as it is, because to hide and show each row takes seconds on a large
+/// page.
 pub(crate) const PAGE_END: &str = "<script>\n\
 var box = document.getElementById('find');\n\
 var found = document.getElementById('found');\n\
@@ -72,17 +73,19 @@ function showPast(row) {\n\
   var list = pastOf(nameOf(row));\n\
   if (row.cells || list.length === 0) return;\n\
   hidePast(row);\n\
-  var table = document.createElement('table');\n\
-  table.className = 'past';\n\
+  var frame = document.createElement('div');\n\
+  frame.className = 'past';\n\
+  var table = make(frame, 'table', '');\n\
   var heading = make(table.createTHead(), 'tr', '');\n\
-  ['Entry', 'Location date', 'Location'].forEach(function (name) { make(heading, 'th', name); });\n\
+  ['Entry', 'Location date', 'Location', 'Containers', 'Station', 'Message']\n\
+    .forEach(function (name) { make(heading, 'th', name); });\n\
   var body = table.createTBody();\n\
   list.forEach(function (at) {\n\
     var line = body.insertRow();\n\
     at.forEach(function (value) { make(line, 'td', value); });\n\
   });\n\
   var summary = row.querySelector('summary');\n\
-  if (summary) summary.after(table); else row.append(table);\n\
+  if (summary) summary.after(frame); else row.append(frame);\n\
 }\n\
 function read() {\n\
   items = [];\n\

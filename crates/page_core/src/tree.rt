@@ -10,10 +10,10 @@ ghost use Rattle.page_core.specs.TreeRows.{object_end, object_row, place_row};
 use crate::counts::{objects_at, objects_in};
 use crate::escapes::escaped;
 use crate::lines::{Line, tree_lines, unplaced_lines};
-use crate::rows::Rows;
 use codes_core::{NoMemory, ThingKind};
 use nest_core::{PlaceNo, Setup, ThingNo};
 use posting_core::Ledger;
+use section_core::Rows;
 use std::alloc::Global;
 
 /// The lines of the tree.

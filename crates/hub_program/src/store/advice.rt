@@ -155,8 +155,8 @@ pub fn on_statement(alloc: Global, path: &str, error: Error) -> Advice {
     }
 }
 
-/// The advice on a database with a wrong schema: a table or view that no store has, if there is
-/// one.
+/// The advice on a database with a wrong schema: that it is an export, or a table or view that no
+/// store has, if there is one.
 fn on_tables<S: Alter>(alloc: Global, path: &str, conn: &mut Connection<S>) -> Advice {
     let rows = conn
         .query_all("SELECT type, name FROM sqlite_schema", &[])
@@ -164,6 +164,9 @@ fn on_tables<S: Alter>(alloc: Global, path: &str, conn: &mut Connection<S>) -> A
     for row in rows.iter() {
         let kind: String = row.get(0).ok()?;
         let name: String = row.get(1).ok()?;
+        if name.as_str() == "record" {
+            return format!(in alloc; "{path} is an export, not a store: name the store").ok();
+        }
         if !is_ours(&name) {
             let what = "which does not belong in a store: delete it";
             return format!(in alloc; "{path} has the {kind} {name}, {what}").ok();

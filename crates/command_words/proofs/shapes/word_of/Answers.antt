@@ -72,6 +72,10 @@ pub returns-in-Page : goal.returns-in-Page
 unfolding app_by register_app report_app
 returns-in-Page c = ap (λ (n : Name). (app_by n).top.name) (sym c.in-Page.is)
 
+pub returns-in-Export : goal.returns-in-Export
+unfolding app_by register_app report_app
+returns-in-Export c = ap (λ (n : Name). (app_by n).top.name) (sym c.in-Export.is)
+
 pub returns-in-Grow : goal.returns-in-Grow
 unfolding app_by register_app report_app
 returns-in-Grow c = ap (λ (n : Name). (app_by n).top.name) (sym c.in-Grow.is)

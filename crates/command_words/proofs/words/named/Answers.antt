@@ -191,6 +191,17 @@ returns-in-Page c =
     chooses_by c.args.name _ (texts_of c.args.words.now) _ c.requires
     c.in-Page.is c.page.ensures
 
+pub export-requires : goal.export-requires
+unfolding form_by register_app report_app
+export-requires c =
+    named_by c.args.name _ (texts_of c.args.words.now) c.requires c.in-Export.is
+
+pub returns-in-Export : goal.returns-in-Export
+unfolding form_by
+returns-in-Export c =
+    chooses_by c.args.name _ (texts_of c.args.words.now) _ c.requires
+    c.in-Export.is c.export.ensures
+
 pub grow-requires : goal.grow-requires
 unfolding form_by register_app report_app
 grow-requires c =

@@ -5,4 +5,4 @@ use Rattle.page_core.proofs.histories.spots_row.Given as goal
 
 abbrev pub invariant-loop-i : goal.invariant-loop-i
 invariant-loop-i l =
-    string_bytes l.row ≡ flat_map (spot_text l.setup l.thing) (take l.i l.spots)
+    string_bytes l.row ≡ flat_map (spot_text l.after l.entry) (take l.i l.spots)

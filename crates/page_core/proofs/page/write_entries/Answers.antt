@@ -2,7 +2,7 @@ use Rattle.std.proofs.Common.{List, subst, ℕ}
 use Rattle.std.specs.List.{range_with_len}
 use Rattle.page_core.specs.Entries.{entry_row, shown}
 use Rattle.page_core.specs.declared.frame.TheConstants.{ENTRIES, TABLE_END}
-use Rattle.page_core.specs.Writes.{Writes}
+use Rattle.section_core.specs.Writes.{Writes}
 use Rattle.page_core.proofs.Sections.{section-texts}
 use Rattle.page_core.proofs.page.write_entries.Goals as goal
 

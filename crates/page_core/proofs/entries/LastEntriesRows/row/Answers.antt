@@ -1,7 +1,7 @@
 use Rattle.std.proofs.Common.{◌<◌, ◌∙◌, Some, ap, arith, sym}
 use Rattle.std.proofs.lemmas.Result.{IfOk-weaker}
 use Rattle.page_core.specs.Entries.{entry_text, shown}
-use Rattle.page_core.proofs.NumberedRows.{numbered, numbered_within}
+use Rattle.section_core.proofs.NumberedRows.{numbered, numbered_within}
 use Rattle.page_core.proofs.entries.LastEntriesRows.row.Goals as goal
 
 pub entry_row-requires : goal.entry_row-requires

@@ -3,7 +3,7 @@ use Rattle.std.proofs.lemmas.Result.{IfOk-weaker}
 use Rattle.nest_core.specs.Museum.{Museum}
 use Rattle.nest_core.specs.declared.TheConstants.{MOST_STATIONS}
 use Rattle.page_core.specs.Stations.{station_row_text}
-use Rattle.page_core.proofs.NumberedRows.{numbered, numbered_within}
+use Rattle.section_core.proofs.NumberedRows.{numbered, numbered_within}
 use Rattle.page_core.proofs.stations.StationsRows.row.Goals as goal
 
 pub overflow_cast-i : goal.overflow_cast-i

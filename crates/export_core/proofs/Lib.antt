@@ -1,0 +1,5 @@
+pub mod Characters
+pub mod Dashes
+pub mod Joining
+pub mod Lasts
+mod Worked

@@ -1,0 +1,71 @@
+//! The rows of the table `place`.
+ghost use Rattle.std.specs.Prelude.{◌≡◌, ◌<◌, ◌≤◌, IfOk, length, string_bytes, take};
+ghost use Rattle.section_core.specs.Values.{value_of};
+ghost use Rattle.export_core.specs.Setups.{before_last_dash, inside, place_row};
+
+use crate::statements::insert;
+use codes_core::{NoMemory, PlaceCode};
+use nest_core::{PlaceNo, Setup};
+use section_core::{Rows, Value};
+use std::alloc::Global;
+
+/// The places of a setup, in its order.
+#[derive(Drop)]
+pub(crate) struct Places<'a> {
+    pub setup: &'a Setup,
+}
+
+impl<'a> Rows for Places<'a> {
+    ghost use Rattle.std.specs.Prelude.{length, map};
+    ghost use Rattle.std.specs.List.{range_with_len};
+    ghost use Rattle.export_core.specs.Setups.{place_row};
+
+    ghost texts = { λ s. map (place_row s.setup.now)
+        (range_with_len 0 (length s.setup.now.places)) };
+
+    fn len(&self) -> usize {
+        self.setup.places() as usize
+    }
+
+    fn row(&self, alloc: Global, i: usize) -> Result<String, NoMemory> {
+        self.setup.is_museum();
+        place_row(alloc, self.setup, i as PlaceNo)
+    }
+}
+
+/// The row of a place.
+fn place_row(alloc: Global, setup: &Setup, place: PlaceNo) -> Result<String, NoMemory>
+    requires { place < length setup.now.places }
+    ensures { IfOk result (λ row. string_bytes row ≡ place_row setup.now place) }
+{
+    let code = setup.place_code(place);
+    let inside = inside(code.as_bytes());
+    insert(alloc, "place", &[Value::Place(code), inside])
+}
+
+/// The place that the place with this code is inside: the code without its last segment. No value
+/// for a code of one segment.
+fn inside<'a>(code: &[u8]) -> Value<'a>
+    ensures { value_of result ≡ inside code.now }
+{
+    let end = last_dash(code);
+    match PlaceCode::parse(&code[..end]) {
+        Ok(above) => Value::Place(above),
+        Err(_) => Value::Nothing,
+    }
+}
+
+/// The number of bytes before the last dash. 0 if there is none.
+fn last_dash(code: &[u8]) -> usize
+    ensures within { result ≤ length code.now }
+    ensures before { take result code.now ≡ before_last_dash code.now }
+{
+    let mut end = code.len();
+    while end > 0 {
+        end -= 1;
+        if code[end] == b'-' {
+            return end;
+        }
+    }
+    0
+}

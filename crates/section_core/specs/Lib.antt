@@ -1,0 +1,4 @@
+pub mod EntryChanges
+pub mod Terms
+pub mod Values
+pub mod Writes
