@@ -73,6 +73,12 @@ def full(room, roomy):
         return ran.returncode, file.read().decode(), ran.stderr.decode()
 
 
+ON_OUTPUT = (
+    "fault write\n"
+    "help: the output cannot be written: its disk is full, or the program that reads it has ended\n"
+)
+
+
 def test_write_fails(room):
     """Output that fails is `fault write`: what there was room for is written, and what was posted
     is in the store."""
@@ -80,7 +86,7 @@ def test_write_fails(room):
     stopped = full(room, 10)
     again = room.replay(MOVE, setup="small.csv")
     posted = room.command("posted", "small.csv")
-    good = same(stopped, (1, "GAL 1 post", "fault write\n")) and same(
+    good = same(stopped, (1, "GAL 1 post", ON_OUTPUT)) and same(
         again, (0, "GAL 1 refused Double\n", "")
     )
     return good and posted[0] == 0 and posted[1].count("\n") == 1
@@ -139,9 +145,9 @@ def test_folder_as_input(room):
 
 
 def test_full_output(room):
-    """A full disk under the output is `fault write`."""
+    """A full disk under the output is `fault write`, with help."""
     with open(f"{ROOT}/examples/first_day/session.txt", "rb") as given, open(
         "/dev/full", "wb"
     ) as full:
         ran = subprocess.run([room.program], stdin=given, stdout=full, stderr=subprocess.PIPE)
-    return b"fault write\n" in ran.stderr.splitlines(True)
+    return ran.stderr.decode().endswith(ON_OUTPUT)

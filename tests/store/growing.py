@@ -237,7 +237,7 @@ def full_output(room, bytes_of, record):
             ran = subprocess.run(
                 words, cwd=room.folder, stdout=full, stderr=subprocess.PIPE, check=False
             )
-        good &= same((ran.returncode, ran.stderr), (1, b"fault write\n"))
+        good &= same((ran.returncode, ran.stderr.splitlines()[0]), (1, b"fault write"))
     return good and same(prints(room), (0, record.setup.file(), ""))
 
 

@@ -1,26 +1,42 @@
--- Texts one after another.
-use Rattle.std.proofs.Common.{◌≡◌, ◌∙◌, ◌++◌, ℕ, List, ap, map}
-use Rattle.std.specs.List.{flat_map}
-use Rattle.std.proofs.lemmas.List.{append_assoc}
-use Rattle.std.proofs.lemmas.List.Folds.{flat_map-map}
-use Rattle.section_core.specs.Writes.{rows_text}
+-- Texts, and lists of rows, one after another.
+use Rattle.std.proofs.Common.{◌≡◌, ◌∙◌, ◌∷◌, ◌+◌, ◌++◌, [], ℕ, List, Some, ap, map, refl, sym}
+use Rattle.std.proofs.Common.{take}
+use Rattle.std.specs.List.{flat_map, join_by, slice_get}
+use Rattle.std.specs.Option.{option_to_list}
+use Rattle.std.proofs.lemmas.List.{append_assoc, append-nil}
+use Rattle.section_core.proofs.Joins.{joined_alike}
+use Rattle.section_core.proofs.WrittenText.{lines_more}
 
--- the texts of two lists of rows, after what is there
-pub two_added : {X Y : Type 0} (old mid new : List ℕ) (f : X → List ℕ) (xs : List X)
-    (g : Y → List ℕ) (ys : List Y)
-    → mid ≡ old ++ rows_text (map f xs) → new ≡ mid ++ rows_text (map g ys)
-    → new ≡ old ++ (flat_map f xs ++ flat_map g ys)
-two_added old mid new f xs g ys first second =
-    second
-    ∙ (ap (λ t. mid ++ t) (flat_map-map (λ t. t) g ys)
-    ∙ (ap (λ t. t ++ flat_map g ys) (first ∙ ap (λ t. old ++ t) (flat_map-map (λ t. t) f xs))
-    ∙ append_assoc old (flat_map f xs) (flat_map g ys)))
+-- what is made of one more element, after what was there
+pub one_more : {X Y : Type 0} (f : X → List Y) (xs : List X) (i : ℕ) (old before after : List Y)
+    (x : X) → slice_get xs i ≡ Some x → before ≡ old ++ flat_map f (take i xs)
+    → after ≡ before ++ f x → after ≡ old ++ flat_map f (take (i + 1) xs)
+one_more f xs i old before after x here is more =
+    more
+    ∙ (ap (λ t. t ++ f x) is
+    ∙ (append_assoc old (flat_map f (take i xs)) (f x)
+    ∙ ap (λ t. old ++ t)
+    (ap (λ t. flat_map f (take i xs) ++ t) (sym (append-nil (f x)))
+    ∙ (ap (λ o. flat_map f (take i xs) ++ flat_map f (option_to_list o)) (sym here)
+    ∙ sym (lines_more f xs i)))))
 
--- six texts, each added at the end
-pub six_added : (a b c d e f : List ℕ)
-    → ((((a ++ b) ++ c) ++ d) ++ e) ++ f ≡ a ++ (b ++ (c ++ (d ++ (e ++ f))))
-six_added a b c d e f =
-    append_assoc (((a ++ b) ++ c) ++ d) e f
-    ∙ (append_assoc ((a ++ b) ++ c) d (e ++ f)
-    ∙ (append_assoc (a ++ b) c (d ++ (e ++ f))
-    ∙ append_assoc a b (c ++ (d ++ (e ++ f)))))
+-- three texts, each added at the end
+pub three_added : (old a b c one two three : List ℕ) → one ≡ old ++ a → two ≡ one ++ b
+    → three ≡ two ++ c → three ≡ old ++ (a ++ (b ++ c))
+three_added old a b c one two three first second third =
+    third
+    ∙ (ap (λ t. t ++ c) (second ∙ ap (λ t. t ++ b) first)
+    ∙ (append_assoc (old ++ a) b c ∙ append_assoc old a (b ++ c)))
+
+same : {X : Type 0} (xs : List X) → xs ≡ map (λ x. x) xs
+same [] = refl
+same (x ∷ xs) = ap (λ l. x ∷ l) (same xs)
+
+-- texts with a separator, of whatever they are the texts
+pub joined_texts : {X : Type 0} (f : X → List ℕ) (sep : List ℕ) (xs : List X)
+    → join_by f sep xs ≡ join_by (λ t. t) sep (map f xs)
+joined_texts f sep xs = joined_alike f (λ t. t) sep xs (map f xs) (same (map f xs))
+
+-- two lists of the same elements
+pub cons : {X : Type 0} {x y : X} {xs ys : List X} → x ≡ y → xs ≡ ys → x ∷ xs ≡ y ∷ ys
+cons {x = x} {ys = ys} first rest = ap (λ l. x ∷ l) rest ∙ ap (λ z. z ∷ ys) first

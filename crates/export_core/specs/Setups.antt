@@ -1,7 +1,7 @@
 -- Defines the rows of the places and the things.
 use Rattle.std.specs.Prelude.{ℕ, ℤ, ◌∷◌, ◌==◌, [], Bool, List, None, Option, Some, codes}
-use Rattle.std.specs.Prelude.{if◌then◌else◌, option_map}
-use Rattle.std.specs.List.{last_or, list_any}
+use Rattle.std.specs.Prelude.{if◌then◌else◌, length, map, option_map}
+use Rattle.std.specs.List.{last_or, list_any, range_with_len}
 use Rattle.std.specs.Option.{option_map_or}
 use Rattle.codes_core.specs.Place.{place_fault}
 use Rattle.codes_core.specs.declared.fault.CodeFault.{CodeFault}
@@ -12,7 +12,7 @@ use Rattle.posting_core.specs.Book.{Book, chain_in, place_in, spots_in}
 use Rattle.reports.specs.Cells.{Cell, day_if, nothing, text, text_if}
 use Rattle.reports.specs.Texts.{place_text, place_text_if, thing_text}
 use Rattle.section_core.specs.Values.{codes_text, word_if}
-use Rattle.export_core.specs.Statements.{insert}
+use Rattle.export_core.specs.Statements.{row}
 
 abbrev pub has_dash : List ℕ → Bool
 has_dash code = list_any (λ b. b == 45) code
@@ -31,10 +31,9 @@ place_if (Some fault) code = nothing
 abbrev pub inside : List ℕ → Cell
 inside code = place_if (place_fault (before_last_dash code)) (before_last_dash code)
 
--- INSERT INTO place VALUES('S1-A','S1');
+-- S1-A S1: a place, and the one that it is inside.
 abbrev pub place_row : Museum → ℕ → List ℕ
-place_row S p =
-    insert (codes "place") (text (place_text S p) ∷ inside (place_text S p) ∷ [])
+place_row S p = row (text (place_text S p) ∷ inside (place_text S p) ∷ [])
 
 -- The word of the setup file for a kind of thing.
 abbrev pub kind_word : ThingKind → List ℕ
@@ -62,4 +61,11 @@ thing_values B x =
     ∷ day_if (since B x) ∷ []
 
 abbrev pub thing_row : Book → ℕ → List ℕ
-thing_row B x = insert (codes "thing") (thing_values B x)
+thing_row B x = row (thing_values B x)
+
+-- All places and all things, in the setup's order.
+abbrev pub all_place_rows : Museum → List (List ℕ)
+all_place_rows S = map (place_row S) (range_with_len 0 (length S.places))
+
+abbrev pub all_thing_rows : Book → List (List ℕ)
+all_thing_rows B = map (thing_row B) (range_with_len 0 (length B.museum.things))

@@ -1,39 +1,40 @@
 //! The rows of what an entry changed.
-ghost use Rattle.std.specs.Prelude.{◌≡◌, ◌<◌, All, IfOk, codes, length, option_map, slice_get};
-ghost use Rattle.std.specs.Prelude.{string_bytes};
+ghost use Rattle.std.specs.Prelude.{◌≡◌, ◌<◌, ◌++◌, All, IfOk, OnOk, length, map, option_map};
+ghost use Rattle.std.specs.Prelude.{slice_get, string_bytes};
 ghost use Rattle.std.specs.List.{flat_map};
 ghost use Rattle.posting_core.specs.Book.{chain_in};
 ghost use Rattle.reports.specs.Cells.{text_if};
 ghost use Rattle.reports.specs.Texts.{thing_text};
 ghost use Rattle.section_core.specs.Values.{value_of};
-ghost use Rattle.export_core.specs.Entries.{crossing_row, entry_column, line_row, movement_row};
-ghost use Rattle.export_core.specs.Literals.{literal};
+ghost use Rattle.export_core.specs.Entries.{crossing_text, entry_column, line_text, movement_row};
+ghost use Rattle.export_core.specs.Entries.{movement_values};
+ghost use Rattle.export_core.specs.Statements.{row};
 
 use crate::literals::literal;
-use crate::statements::insert;
+use crate::statements::row;
 use codes_core::NoMemory;
 use nest_core::{Setup, ThingNo};
 use posting_core::{EntryNo, Ledger, LineStage, NewLine, NewSpot, PostedEntry};
 use section_core::{Value, place_value, station_name, thing_value};
 use std::alloc::Global;
 
-/// The rows of the new locations of things, by the record after the entry. Fails with `NoMemory`.
-pub(crate) fn movement_rows(
+/// Adds the rows of the new locations of things, by the record after the entry. Fails with
+/// `NoMemory`.
+pub(crate) fn push_movements(
     alloc: Global,
     after: &Ledger,
     entry: &PostedEntry,
     spots: &[NewSpot],
-) -> Result<String, NoMemory>
+    rows: &mut Vec<String>,
+) -> Result<(), NoMemory>
     requires { All (λ s. s.thing < length after.now.museum.things) spots.now }
-    ensures { IfOk result
-        (λ rows. string_bytes rows ≡ flat_map (movement_row after.now entry.now) spots.now) }
+    ensures { OnOk result (map string_bytes rows.new.items
+        ≡ map string_bytes rows.old.items ++ map (movement_row after.now entry.now) spots.now) }
 {
-    let mut rows = String::new(alloc);
     for i in 0..spots.len() {
-        let row = movement_row(alloc, after, entry, &spots[i])?;
-        rows.push_str(row.as_str())?;
+        rows.push(movement_row(alloc, after, entry, &spots[i])?)?;
     }
-    Ok(rows)
+    Ok(())
 }
 
 /// The row of a new location.
@@ -47,8 +48,21 @@ fn movement_row(
     ensures { IfOk result
         (λ row. string_bytes row ≡ movement_row after.now entry.now new.now) }
 {
-    let setup = after.setup();
     let container = container(alloc, after, new.thing)?;
+    row_with(alloc, after.setup(), entry, new, container)
+}
+
+/// The row of a new location of a thing that is in this container.
+fn row_with(
+    alloc: Global,
+    setup: &Setup,
+    entry: &PostedEntry,
+    new: &NewSpot,
+    container: Option<ThingNo>,
+) -> Result<String, NoMemory>
+    ensures { IfOk result (λ sql. string_bytes sql
+        ≡ row (movement_values setup.now entry.now new.now container)) }
+{
     let values = [
         Value::Number(u64::from(new.spot.entry)),
         Value::Day(new.spot.day),
@@ -58,7 +72,7 @@ fn movement_row(
         Value::Word(station_name(setup, entry.station())),
         Value::Number(u64::from(entry.n())),
     ];
-    insert(alloc, "movement", &values)
+    row(alloc, &values)
 }
 
 /// The innermost container that a thing is in, if there is one.
@@ -81,34 +95,34 @@ fn thing_if<'a>(setup: &Setup, thing: Option<ThingNo>) -> Value<'a>
 }
 
 /// The statements for how far an entry brought loans. Fails with `NoMemory`.
-pub(crate) fn line_rows(
+pub(crate) fn line_texts(
     alloc: Global,
     setup: &Setup,
     entry: EntryNo,
     lines: &[NewLine],
 ) -> Result<String, NoMemory>
     ensures { IfOk result
-        (λ rows. string_bytes rows ≡ flat_map (line_row setup.now entry) lines.now) }
+        (λ sql. string_bytes sql ≡ flat_map (line_text setup.now entry) lines.now) }
 {
-    let mut rows = String::new(alloc);
+    let mut texts = String::new(alloc);
     for i in 0..lines.len() {
-        let row = line_row(alloc, setup, entry, &lines[i])?;
-        rows.push_str(row.as_str())?;
+        let text = line_text(alloc, setup, entry, &lines[i])?;
+        texts.push_str(text.as_str())?;
     }
-    Ok(rows)
+    Ok(texts)
 }
 
 /// The statement for the stage that an object reached, if its row has the entry.
-fn line_row(
+fn line_text(
     alloc: Global,
     setup: &Setup,
     entry: EntryNo,
     line: &NewLine,
 ) -> Result<String, NoMemory>
-    ensures { IfOk result (λ row. string_bytes row ≡ line_row setup.now entry line.now) }
+    ensures { IfOk result (λ sql. string_bytes sql ≡ line_text setup.now entry line.now) }
 {
     match entry_column(line.stage) {
-        Some(column) => crossing_row(alloc, setup, entry, line, column),
+        Some(column) => crossing_text(alloc, setup, entry, line, column),
         None => Ok(String::new(alloc)),
     }
 }
@@ -125,7 +139,7 @@ fn entry_column(stage: LineStage) -> Option<&'static str>
 }
 
 /// The statement that sets a column to the entry.
-fn crossing_row(
+fn crossing_text(
     alloc: Global,
     setup: &Setup,
     entry: EntryNo,
@@ -133,7 +147,7 @@ fn crossing_row(
     column: &str,
 ) -> Result<String, NoMemory>
     ensures { IfOk result
-        (λ row. string_bytes row ≡ crossing_row setup.now entry line.now column.now) }
+        (λ sql. string_bytes sql ≡ crossing_text setup.now entry line.now column.now) }
 {
     let loan = literal(alloc, &Value::Loan(line.loan))?;
     let thing = literal(alloc, &thing_value(setup, line.object))?;

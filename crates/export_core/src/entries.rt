@@ -1,13 +1,14 @@
 //! The rows of the entries: each message, what it moved, and how far it brought loans.
-ghost use Rattle.std.specs.Prelude.{◌≡◌, ◌<◌, ◌+◌, ◌++◌, All, IfOk, OnOk, codes, length};
+ghost use Rattle.std.specs.Prelude.{◌≡◌, ◌<◌, ◌+◌, ◌++◌, All, IfOk, OnOk, length, map};
 ghost use Rattle.std.specs.Prelude.{string_bytes};
 ghost use Rattle.posting_core.specs.Past.{upto};
-ghost use Rattle.export_core.specs.Entries.{change_rows, entries_text, entry_rows, message_row};
+ghost use Rattle.export_core.specs.Entries.{line_texts, message_row, movement_rows};
 ghost use Rattle.export_core.specs.Entries.{values_with};
-ghost use Rattle.export_core.specs.Statements.{insert};
+ghost use Rattle.export_core.specs.Rows.{AddsChanges, AddsEntry, HasEntries};
+ghost use Rattle.export_core.specs.Statements.{row};
 
-use crate::changes::{line_rows, movement_rows};
-use crate::statements::insert;
+use crate::changes::{line_texts, push_movements};
+use crate::statements::row;
 use codes_core::NoMemory;
 use posting_core::{Changes, Ledger, PostedEntry, kind_name, past};
 use register_store::message_text;
@@ -15,59 +16,80 @@ use reports::cause_text;
 use section_core::{Value, entry_at, post_planned, station_name, word_if};
 use std::alloc::Global;
 
-/// Adds the rows of all entries, oldest first. Fails with `NoMemory`. Takes memory for a second
+/// What the entries of a record add to its script.
+#[derive(Drop)]
+pub(crate) struct EntryRows {
+    /// The rows of the table `message`.
+    pub messages: Vec<String>,
+    /// The rows of the table `movement`.
+    pub movements: Vec<String>,
+    /// The statements for the entries at which the objects of loans left, arrived and went back.
+    pub lines: String,
+}
+
+/// Returns the rows of all entries, oldest first. Fails with `NoMemory`. Takes memory for a second
 /// ledger, to which it posts the entries once more.
-pub(crate) fn add_entries(
-    alloc: Global,
-    ledger: &Ledger,
-    script: &mut String,
-) -> Result<(), NoMemory>
-    ensures { OnOk result
-        (string_bytes script.new ≡ string_bytes script.old ++ entries_text ledger.now) }
+pub(crate) fn entry_rows(alloc: Global, ledger: &Ledger) -> Result<EntryRows, NoMemory>
+    ensures { IfOk result (HasEntries ledger.now (length ledger.now.posted)) }
+{
+    let mut rows = EntryRows {
+        messages: Vec::new(alloc),
+        movements: Vec::new(alloc),
+        lines: String::new(alloc),
+    };
+    push_all(alloc, ledger, &mut rows)?;
+    Ok(rows)
+}
+
+/// Adds the rows of all entries to `rows`, which has none yet.
+fn push_all(alloc: Global, ledger: &Ledger, rows: &mut EntryRows) -> Result<(), NoMemory>
+    requires { HasEntries ledger.now 0 rows.old }
+    ensures { OnOk result (HasEntries ledger.now (length ledger.now.posted) rows.new) }
 {
     let mut so_far = past(alloc, ledger, 0)?;
-    let ended = add_all(alloc, ledger, &mut so_far, script);
+    let ended = push_posted(alloc, ledger, &mut so_far, rows);
     drop(so_far);
     ended
 }
 
 /// Adds the rows of all entries, and posts them to `so_far`, which has none yet.
-fn add_all(
+fn push_posted(
     alloc: Global,
     ledger: &Ledger,
     so_far: &mut Ledger,
-    script: &mut String,
+    rows: &mut EntryRows,
 ) -> Result<(), NoMemory>
-    requires { so_far.old ≡ upto ledger.now 0 }
-    ensures { OnOk result
-        (string_bytes script.new ≡ string_bytes script.old ++ entries_text ledger.now) }
+    requires before { so_far.old ≡ upto ledger.now 0 }
+    requires empty { HasEntries ledger.now 0 rows.old }
+    ensures { OnOk result (HasEntries ledger.now (length ledger.now.posted) rows.new) }
 {
     for i in 0..ledger.entry_count() as usize {
-        let rows = entry_rows(alloc, ledger, so_far, i)?;
-        script.push_str(rows.as_str())?;
+        push_entry(alloc, ledger, so_far, i, rows)?;
     }
     Ok(())
 }
 
-/// The rows of the entry at this index, from 0. Posts it to `so_far`, which has the entries before
-/// it.
-fn entry_rows(
+/// Adds the rows of the entry at this index, from 0. Posts it to `so_far`, which has the entries
+/// before it.
+fn push_entry(
     alloc: Global,
     ledger: &Ledger,
     so_far: &mut Ledger,
     i: usize,
-) -> Result<String, NoMemory>
+    rows: &mut EntryRows,
+) -> Result<(), NoMemory>
     requires within { i < length ledger.now.posted }
     requires before { so_far.old ≡ upto ledger.now i }
-    ensures rows { IfOk result (λ rows. string_bytes rows ≡ entry_rows ledger.now i) }
+    ensures rows { OnOk result (AddsEntry ledger.now i rows.old rows.new) }
     ensures after { OnOk result (so_far.new ≡ upto ledger.now (i + 1)) }
 {
     let entry = entry_at(ledger, i);
     let _ = ledger.entry_count();
-    let message = message_row(alloc, so_far, i as u64 + 1, entry)?;
+    rows.messages
+        .push(message_row(alloc, so_far, i as u64 + 1, entry)?)?;
     let changes = post_planned(alloc, ledger, so_far, i)?;
-    let rows = change_rows(alloc, so_far, entry, &changes)?;
-    Ok([message.as_str(), rows.as_str()].concat(alloc)?)
+    push_changes(alloc, so_far, entry, &changes, rows)?;
+    Ok(())
 }
 
 /// The row of an entry's message, by the record before it.
@@ -105,8 +127,8 @@ fn row_with<'a>(
     cause: &'a str,
     text: &'a str,
 ) -> Result<String, NoMemory>
-    ensures { IfOk result (λ row. string_bytes row ≡ insert (codes "message")
-        (values_with number station.now entry.now kind.now cause.now text.now)) }
+    ensures { IfOk result (λ sql. string_bytes sql
+        ≡ row (values_with number station.now entry.now kind.now cause.now text.now)) }
 {
     let values = [
         Value::Number(number),
@@ -117,26 +139,33 @@ fn row_with<'a>(
         word_if(cause),
         Value::Word(text),
     ];
-    insert(alloc, "message", &values)
+    row(alloc, &values)
 }
 
-/// What an entry moved, and how far it brought loans, by the record after it.
-fn change_rows(
+/// Adds what an entry moved, and how far it brought loans, by the record after it.
+fn push_changes(
     alloc: Global,
     after: &Ledger,
     entry: &PostedEntry,
     changes: &Changes,
-) -> Result<String, NoMemory>
+    rows: &mut EntryRows,
+) -> Result<(), NoMemory>
     requires { All (λ s. s.thing < length after.now.museum.things) changes.now.spots }
-    ensures { IfOk result
-        (λ rows. string_bytes rows ≡ change_rows after.now entry.now changes.now) }
+    ensures { OnOk result (AddsChanges after.now entry.now changes.now rows.old rows.new) }
 {
-    let moved = movement_rows(alloc, after, entry, changes.spots.as_slice())?;
-    let lines = line_rows(
+    push_movements(
+        alloc,
+        after,
+        entry,
+        changes.spots.as_slice(),
+        &mut rows.movements,
+    )?;
+    let lines = line_texts(
         alloc,
         after.setup(),
         changes.entry,
         changes.lines.as_slice(),
     )?;
-    Ok([moved.as_str(), lines.as_str()].concat(alloc)?)
+    rows.lines.push_str(lines.as_str())?;
+    Ok(())
 }

@@ -10,7 +10,7 @@
 //!
 //! ```text
 //! let script = script(alloc, hub.ledger(), Some(today))?;
-//! // .. INSERT INTO place VALUES('S1-A','S1'); ..
+//! // .. INSERT INTO place VALUES ..
 //! export(alloc, hub.ledger(), Some(today), Connection::open(rt, "flat.db")?)?;
 //! ```
 #![tactic(auto)]
@@ -22,7 +22,6 @@ mod literals;
 mod loan_objects;
 mod loans;
 mod places;
-mod rows;
 mod schema;
 mod sections;
 mod statements;

@@ -1,86 +1,69 @@
 //! The rows of the table `loan_object`, and the loans of the things.
-ghost use Rattle.std.specs.Prelude.{◌≡◌, ◌++◌, IfOk, codes, string_bytes};
+ghost use Rattle.std.specs.Prelude.{◌≡◌, ◌++◌, IfOk, OnOk, map, string_bytes};
 ghost use Rattle.std.specs.List.{flat_map};
 ghost use Rattle.section_core.specs.Terms.{agreement_with};
-ghost use Rattle.export_core.specs.Loans.{lent_if, lent_row, object_row, object_values, objects_row};
-ghost use Rattle.export_core.specs.Statements.{insert};
+ghost use Rattle.export_core.specs.Loans.{all_lent, all_object_rows, lent_if, lent_text};
+ghost use Rattle.export_core.specs.Loans.{lent_texts, object_row, object_rows};
 
 use crate::literals::literal;
-use crate::statements::insert;
+use crate::statements::row;
 use codes_core::{LoanCode, NoMemory, ThingCode};
 use posting_core::Ledger;
-use section_core::{Rows, Terms, Value, agreed_terms, is_out, stage_if, stage_of};
+use section_core::{Terms, Value, agreed_terms, is_out, stage_if, stage_of};
 use std::alloc::Global;
 
-/// The agreed loans, in the order of their agreements.
-#[derive(Drop)]
-pub(crate) struct LoanObjects<'a> {
-    pub ledger: &'a Ledger,
+/// Returns the rows of the objects of all agreed loans. Fails with `NoMemory`.
+pub(crate) fn object_rows(alloc: Global, ledger: &Ledger) -> Result<Vec<String>, NoMemory>
+    ensures { IfOk result (λ rows. map string_bytes rows.items ≡ all_object_rows ledger.now) }
+{
+    let mut rows = Vec::new(alloc);
+    for i in 0..ledger.loan_count() {
+        push_objects(alloc, ledger, &ledger.loan_at(i), &mut rows)?;
+    }
+    Ok(rows)
 }
 
-impl<'a> Rows for LoanObjects<'a> {
-    ghost use Rattle.std.specs.Prelude.{map};
-    ghost use Rattle.posting_core.specs.Book.{loans_in};
-    ghost use Rattle.export_core.specs.Loans.{objects_row};
-
-    ghost texts = { λ s. map (objects_row s.ledger.now) (loans_in s.ledger.now) };
-
-    fn len(&self) -> usize {
-        self.ledger.loan_count()
-    }
-
-    fn row(&self, alloc: Global, i: usize) -> Result<String, NoMemory> {
-        objects_row(alloc, self.ledger, &self.ledger.loan_at(i))
-    }
-}
-
-/// The rows of a loan's objects.
-fn objects_row(alloc: Global, ledger: &Ledger, loan: &LoanCode) -> Result<String, NoMemory>
-    ensures { IfOk result (λ row. string_bytes row ≡ objects_row ledger.now loan.now) }
+/// Adds the rows of a loan's objects.
+fn push_objects(
+    alloc: Global,
+    ledger: &Ledger,
+    loan: &LoanCode,
+    rows: &mut Vec<String>,
+) -> Result<(), NoMemory>
+    ensures { OnOk result (map string_bytes rows.new.items
+        ≡ map string_bytes rows.old.items ++ object_rows ledger.now loan.now) }
 {
     match agreed_terms(ledger, loan) {
-        Some(terms) => terms_row(alloc, ledger, &terms),
-        None => Ok(String::new(alloc)),
+        Some(terms) => push_lines(alloc, ledger, &terms, rows),
+        None => Ok(()),
     }
 }
 
-/// The rows of the objects of the loan with these terms.
-fn terms_row(alloc: Global, ledger: &Ledger, terms: &Terms<'_>) -> Result<String, NoMemory>
-    ensures { IfOk result (λ row. string_bytes row
-        ≡ flat_map (object_row ledger.now (agreement_with terms.now)) terms.now.objects.now) }
+/// Adds the rows of the objects of the loan with these terms.
+fn push_lines(
+    alloc: Global,
+    ledger: &Ledger,
+    terms: &Terms<'_>,
+    rows: &mut Vec<String>,
+) -> Result<(), NoMemory>
+    ensures { OnOk result (map string_bytes rows.new.items ≡ map string_bytes rows.old.items
+        ++ map (object_row ledger.now (agreement_with terms.now)) terms.now.objects.now) }
 {
-    let mut row = String::new(alloc);
     for i in 0..terms.objects.len() {
-        let object = object_row(alloc, ledger, terms, &terms.objects[i])?;
-        row.push_str(object.as_str())?;
+        rows.push(object_row(alloc, ledger, terms, &terms.objects[i])?)?;
     }
-    Ok(row)
+    Ok(())
 }
 
-/// An object's row and, if it is out under the loan, the statement that sets the thing's loan.
+/// The row of an object.
 fn object_row(
     alloc: Global,
     ledger: &Ledger,
     terms: &Terms<'_>,
     object: &ThingCode,
 ) -> Result<String, NoMemory>
-    ensures { IfOk result (λ row. string_bytes row
+    ensures { IfOk result (λ sql. string_bytes sql
         ≡ object_row ledger.now (agreement_with terms.now) object.now) }
-{
-    let row = line_row(alloc, ledger, terms, object)?;
-    let lent = lent_if(alloc, ledger, terms, object)?;
-    Ok([row.as_str(), lent.as_str()].concat(alloc)?)
-}
-
-/// The row of an object.
-fn line_row(
-    alloc: Global,
-    ledger: &Ledger,
-    terms: &Terms<'_>,
-    object: &ThingCode,
-) -> Result<String, NoMemory>
-    ensures { IfOk result (λ row. string_bytes row ≡ insert (codes "loan_object")
-        (object_values ledger.now (agreement_with terms.now) object.now)) }
 {
     let stage = stage_if(stage_of(ledger, terms, object));
     let values = [
@@ -90,7 +73,43 @@ fn line_row(
         Value::Nothing,
         Value::Nothing,
     ];
-    insert(alloc, "loan_object", &values)
+    row(alloc, &values)
+}
+
+/// Adds the statements that set the loan of each thing that is out under one. Fails with
+/// `NoMemory`.
+pub(crate) fn add_lent(alloc: Global, ledger: &Ledger, script: &mut String) -> Result<(), NoMemory>
+    ensures { OnOk result
+        (string_bytes script.new ≡ string_bytes script.old ++ all_lent ledger.now) }
+{
+    for i in 0..ledger.loan_count() {
+        let texts = lent_texts(alloc, ledger, &ledger.loan_at(i))?;
+        script.push_str(texts.as_str())?;
+    }
+    Ok(())
+}
+
+/// The statements for the objects of a loan.
+fn lent_texts(alloc: Global, ledger: &Ledger, loan: &LoanCode) -> Result<String, NoMemory>
+    ensures { IfOk result (λ sql. string_bytes sql ≡ lent_texts ledger.now loan.now) }
+{
+    match agreed_terms(ledger, loan) {
+        Some(terms) => terms_texts(alloc, ledger, &terms),
+        None => Ok(String::new(alloc)),
+    }
+}
+
+/// The statements for the objects of the loan with these terms.
+fn terms_texts(alloc: Global, ledger: &Ledger, terms: &Terms<'_>) -> Result<String, NoMemory>
+    ensures { IfOk result (λ sql. string_bytes sql
+        ≡ flat_map (lent_if ledger.now (agreement_with terms.now)) terms.now.objects.now) }
+{
+    let mut texts = String::new(alloc);
+    for i in 0..terms.objects.len() {
+        let lent = lent_if(alloc, ledger, terms, &terms.objects[i])?;
+        texts.push_str(lent.as_str())?;
+    }
+    Ok(texts)
 }
 
 /// The statement that sets the thing's loan, if the object is out under the loan.
@@ -100,19 +119,19 @@ fn lent_if(
     terms: &Terms<'_>,
     object: &ThingCode,
 ) -> Result<String, NoMemory>
-    ensures { IfOk result (λ row. string_bytes row
+    ensures { IfOk result (λ sql. string_bytes sql
         ≡ lent_if ledger.now (agreement_with terms.now) object.now) }
 {
     if is_out(ledger, terms, object) {
-        lent_row(alloc, &terms.loan, object)
+        lent_text(alloc, &terms.loan, object)
     } else {
         Ok(String::new(alloc))
     }
 }
 
 /// The statement that sets the loan of a thing.
-fn lent_row(alloc: Global, loan: &LoanCode, object: &ThingCode) -> Result<String, NoMemory>
-    ensures { IfOk result (λ row. string_bytes row ≡ lent_row loan.now object.now) }
+fn lent_text(alloc: Global, loan: &LoanCode, object: &ThingCode) -> Result<String, NoMemory>
+    ensures { IfOk result (λ sql. string_bytes sql ≡ lent_text loan.now object.now) }
 {
     let loan = literal(alloc, &Value::Loan(*loan))?;
     let object = literal(alloc, &Value::Thing(*object))?;

@@ -1,51 +1,46 @@
 //! The rows of the table `loan`.
-ghost use Rattle.std.specs.Prelude.{◌≡◌, IfOk, codes, map, string_bytes};
+ghost use Rattle.std.specs.Prelude.{◌≡◌, ◌++◌, IfOk, OnOk, map, string_bytes};
 ghost use Rattle.section_core.specs.Terms.{agreement_with};
-ghost use Rattle.export_core.specs.Loans.{loan_row, loan_values};
-ghost use Rattle.export_core.specs.Statements.{insert};
+ghost use Rattle.export_core.specs.Loans.{all_loan_rows, loan_row, loan_values};
+ghost use Rattle.export_core.specs.Statements.{row};
 
-use crate::statements::insert;
+use crate::statements::row;
 use codes_core::{LoanCode, NoMemory};
 use posting_core::Ledger;
-use section_core::{Rows, Terms, Value, agreed_terms, day_if, state_if};
+use section_core::{Terms, Value, agreed_terms, day_if, state_if};
 use std::alloc::Global;
 
-/// The agreed loans, in the order of their agreements.
-#[derive(Drop)]
-pub(crate) struct Loans<'a> {
-    pub ledger: &'a Ledger,
-}
-
-impl<'a> Rows for Loans<'a> {
-    ghost use Rattle.std.specs.Prelude.{map};
-    ghost use Rattle.posting_core.specs.Book.{loans_in};
-    ghost use Rattle.export_core.specs.Loans.{loan_row};
-
-    ghost texts = { λ s. map (loan_row s.ledger.now) (loans_in s.ledger.now) };
-
-    fn len(&self) -> usize {
-        self.ledger.loan_count()
-    }
-
-    fn row(&self, alloc: Global, i: usize) -> Result<String, NoMemory> {
-        loan_row(alloc, self.ledger, &self.ledger.loan_at(i))
-    }
-}
-
-/// The row of a loan.
-fn loan_row(alloc: Global, ledger: &Ledger, loan: &LoanCode) -> Result<String, NoMemory>
-    ensures { IfOk result (λ row. string_bytes row ≡ loan_row ledger.now loan.now) }
+/// Returns the rows of the agreed loans, in the order of their agreements. Fails with `NoMemory`.
+pub(crate) fn loan_rows(alloc: Global, ledger: &Ledger) -> Result<Vec<String>, NoMemory>
+    ensures { IfOk result (λ rows. map string_bytes rows.items ≡ all_loan_rows ledger.now) }
 {
-    match agreed_terms(ledger, loan) {
-        Some(terms) => terms_row(alloc, ledger, &terms),
-        None => Ok(String::new(alloc)),
+    let mut rows = Vec::new(alloc);
+    for i in 0..ledger.loan_count() {
+        push_loan(alloc, ledger, &ledger.loan_at(i), &mut rows)?;
     }
+    Ok(rows)
+}
+
+/// Adds the row of a loan.
+fn push_loan(
+    alloc: Global,
+    ledger: &Ledger,
+    loan: &LoanCode,
+    rows: &mut Vec<String>,
+) -> Result<(), NoMemory>
+    ensures { OnOk result (map string_bytes rows.new.items
+        ≡ map string_bytes rows.old.items ++ loan_row ledger.now loan.now) }
+{
+    if let Some(terms) = agreed_terms(ledger, loan) {
+        rows.push(terms_row(alloc, ledger, &terms)?)?;
+    }
+    Ok(())
 }
 
 /// The row of the loan with these terms.
 fn terms_row(alloc: Global, ledger: &Ledger, terms: &Terms<'_>) -> Result<String, NoMemory>
-    ensures { IfOk result (λ row. string_bytes row
-        ≡ insert (codes "loan") (loan_values ledger.now (agreement_with terms.now))) }
+    ensures { IfOk result (λ sql. string_bytes sql
+        ≡ row (loan_values ledger.now (agreement_with terms.now))) }
 {
     let values = [
         Value::Loan(terms.loan),
@@ -54,5 +49,5 @@ fn terms_row(alloc: Global, ledger: &Ledger, terms: &Terms<'_>) -> Result<String
         day_if(ledger.last_day(&terms.loan)),
         state_if(ledger.loan_state(&terms.loan)),
     ];
-    insert(alloc, "loan", &values)
+    row(alloc, &values)
 }

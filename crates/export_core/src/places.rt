@@ -1,36 +1,25 @@
 //! The rows of the table `place`.
-ghost use Rattle.std.specs.Prelude.{◌≡◌, ◌<◌, ◌≤◌, IfOk, length, string_bytes, take};
+ghost use Rattle.std.specs.Prelude.{◌≡◌, ◌<◌, ◌≤◌, IfOk, length, map, string_bytes, take};
+ghost use Rattle.std.specs.List.{range_with_len};
 ghost use Rattle.section_core.specs.Values.{value_of};
 ghost use Rattle.export_core.specs.Setups.{before_last_dash, inside, place_row};
 
-use crate::statements::insert;
+use crate::statements::row;
 use codes_core::{NoMemory, PlaceCode};
 use nest_core::{PlaceNo, Setup};
-use section_core::{Rows, Value};
+use section_core::Value;
 use std::alloc::Global;
 
-/// The places of a setup, in its order.
-#[derive(Drop)]
-pub(crate) struct Places<'a> {
-    pub setup: &'a Setup,
-}
-
-impl<'a> Rows for Places<'a> {
-    ghost use Rattle.std.specs.Prelude.{length, map};
-    ghost use Rattle.std.specs.List.{range_with_len};
-    ghost use Rattle.export_core.specs.Setups.{place_row};
-
-    ghost texts = { λ s. map (place_row s.setup.now)
-        (range_with_len 0 (length s.setup.now.places)) };
-
-    fn len(&self) -> usize {
-        self.setup.places() as usize
+/// Returns the rows of the places, in the setup's order. Fails with `NoMemory`.
+pub(crate) fn place_rows(alloc: Global, setup: &Setup) -> Result<Vec<String>, NoMemory>
+    ensures { IfOk result (λ rows. map string_bytes rows.items
+        ≡ map (place_row setup.now) (range_with_len 0 (length setup.now.places))) }
+{
+    let mut rows = Vec::new(alloc);
+    for place in 0..setup.places() {
+        rows.push(place_row(alloc, setup, place)?)?;
     }
-
-    fn row(&self, alloc: Global, i: usize) -> Result<String, NoMemory> {
-        self.setup.is_museum();
-        place_row(alloc, self.setup, i as PlaceNo)
-    }
+    Ok(rows)
 }
 
 /// The row of a place.
@@ -40,7 +29,7 @@ fn place_row(alloc: Global, setup: &Setup, place: PlaceNo) -> Result<String, NoM
 {
     let code = setup.place_code(place);
     let inside = inside(code.as_bytes());
-    insert(alloc, "place", &[Value::Place(code), inside])
+    row(alloc, &[Value::Place(code), inside])
 }
 
 /// The place that the place with this code is inside: the code without its last segment. No value

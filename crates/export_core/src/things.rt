@@ -1,39 +1,25 @@
 //! The rows of the table `thing`.
-ghost use Rattle.std.specs.Prelude.{◌≡◌, ◌<◌, IfOk, length, map, option_map, string_bytes};
-ghost use Rattle.reports.specs.Cells.{Cell, day_if};
-ghost use Rattle.reports.specs.Texts.{thing_text};
-ghost use Rattle.section_core.specs.Values.{value_of};
+ghost use Rattle.std.specs.Prelude.{◌≡◌, ◌<◌, IfOk, length, map, string_bytes};
+ghost use Rattle.std.specs.List.{range_with_len};
 ghost use Rattle.export_core.specs.Setups.{above, kind_word, since, thing_row};
 
-use crate::statements::insert;
+use crate::statements::row;
 use codes_core::{Day, NoMemory, ThingKind};
 use nest_core::{Setup, ThingNo};
 use posting_core::Ledger;
-use section_core::{Rows, Value, codes_text, day_if, place_if, word_if};
+use section_core::{Value, codes_text, day_if, place_if, word_if};
 use std::alloc::Global;
 
-/// The things of a record, in the setup's order.
-#[derive(Drop)]
-pub(crate) struct Things<'a> {
-    pub ledger: &'a Ledger,
-}
-
-impl<'a> Rows for Things<'a> {
-    ghost use Rattle.std.specs.Prelude.{length, map};
-    ghost use Rattle.std.specs.List.{range_with_len};
-    ghost use Rattle.export_core.specs.Setups.{thing_row};
-
-    ghost texts = { λ s. map (thing_row s.ledger.now)
-        (range_with_len 0 (length s.ledger.now.museum.things)) };
-
-    fn len(&self) -> usize {
-        self.ledger.setup().things() as usize
+/// Returns the rows of the things, in the setup's order. Fails with `NoMemory`.
+pub(crate) fn thing_rows(alloc: Global, ledger: &Ledger) -> Result<Vec<String>, NoMemory>
+    ensures { IfOk result (λ rows. map string_bytes rows.items
+        ≡ map (thing_row ledger.now) (range_with_len 0 (length ledger.now.museum.things))) }
+{
+    let mut rows = Vec::new(alloc);
+    for thing in 0..ledger.setup().things() {
+        rows.push(thing_row(alloc, ledger, thing)?)?;
     }
-
-    fn row(&self, alloc: Global, i: usize) -> Result<String, NoMemory> {
-        self.ledger.setup().is_museum();
-        thing_row(alloc, self.ledger, i as ThingNo)
-    }
+    Ok(rows)
 }
 
 /// The row of a thing.
@@ -66,7 +52,7 @@ fn row_with(
         Value::Nothing,
         day_if(since(ledger, thing)),
     ];
-    insert(alloc, "thing", &values)
+    row(alloc, &values)
 }
 
 /// The word of the setup file for a kind of thing.

@@ -158,6 +158,10 @@ impl From<RunFault> for CommandFault {
     }
 }
 
+/// The advice on an output that cannot be written.
+const ON_OUTPUT: &str =
+    "the output cannot be written: its disk is full, or the program that reads it has ended";
+
 impl CommandFault {
     /// Returns the exit status: 2 for a usage error, otherwise 1.
     pub fn status(&self) -> u8 {
@@ -197,6 +201,7 @@ impl CommandFault {
             | CommandFault::Station(_, advice)
             | CommandFault::Feeds(advice)
             | CommandFault::Words(advice) => advice.as_deref(),
+            CommandFault::WriteFailed => Some(ON_OUTPUT),
             _ => None,
         }
     }

@@ -1,5 +1,5 @@
 -- The things of the spots that an entry adds.
-use Rattle.std.specs.Prelude.{ℕ, ◌≡◌, ◌+◌, ◌<◌, ◌≤◌, All, List, None, Option, Some, length, suc, zero}
+use Rattle.std.specs.Prelude.{ℕ, ◌≡◌, ◌+◌, ◌<◌, ◌≤◌, All, None, Option, Some, length, suc, zero}
 use Rattle.std.specs.List.{cons_option, filter_map, range_with_len}
 use Rattle.std.proofs.Common.{[], arith, cond, false, refl, true}
 use Rattle.std.proofs.lemmas.List.Elements.{All-cons, All-nil}

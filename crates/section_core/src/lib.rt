@@ -7,6 +7,7 @@
 //!
 //! [`Value`] is a value of a row. [`agreed_terms`] returns the terms of a loan, and
 //! [`post_planned`] what an entry changed, while it posts the entry once more to a second ledger.
+//! [`laws`] proves that the new locations of all entries are those of the report `history`.
 //!
 //! ```text
 //! let mut so_far = past(alloc, ledger, 0)?;
@@ -15,6 +16,7 @@
 #![tactic(auto)]
 
 mod changes;
+pub mod laws;
 mod rows;
 mod terms;
 mod things;
