@@ -157,8 +157,8 @@ pub(crate) const RUN_FAULTS: &[Meaning] = &[
     },
     Meaning {
         word: "file",
-        means: "a named file cannot be read, or a copy cannot be written",
-        cause: "a mistyped path, missing permission, a full disk, or the copy exists.",
+        means: "a named file cannot be read, or a new file cannot be written",
+        cause: "a mistyped path, missing permission, a full disk, or the new file exists.",
         action: "do what the help: line says. It names the file.",
     },
     Meaning {

@@ -8,7 +8,7 @@ ghost use Rattle.command_words.specs.Commands as commands;
 ghost use Rattle.command_words.specs.Words.{Chooses, HoldsAudit, HoldsTable, IsMissing, IsNamed};
 ghost use Rattle.command_words.specs.Words.{texts_of};
 
-use crate::reading::{files_of, is_set, needed, one, read, record_of};
+use crate::reading::{files_of, is_set, one, read, record_of};
 use crate::shapes::Name;
 use crate::{AuditWords, Chosen, TableWords, WordsFault};
 use clap::ArgMatches;
@@ -31,10 +31,17 @@ fn table_words<'a, 'b>(found: &'b ArgMatches<'a>) -> Result<TableWords<'a>, Word
         (IsMissing commands.lines.needed (rows_of (found_of found.now))) }
 {
     let files = files_of(found);
+    let (Some(setup), Some(station), Some(table)) = (
+        files.setup,
+        one(found, "station"),
+        one(found, "table"),
+    ) else {
+        return Err(WordsFault::Missing);
+    };
     Ok(TableWords {
-        setup: needed(files.setup)?,
+        setup,
         store: files.store,
-        station: needed(one(found, "station"))?,
+        station,
         first: one(found, "first"),
         kind: one(found, "kind"),
         day: one(found, "day"),
@@ -44,7 +51,7 @@ fn table_words<'a, 'b>(found: &'b ArgMatches<'a>) -> Result<TableWords<'a>, Word
         dates: one(found, "dates"),
         labels: one(found, "labels"),
         strict: is_set(found, "strict"),
-        table: needed(one(found, "table"))?,
+        table,
     })
 }
 
@@ -73,13 +80,15 @@ pub(crate) fn gap<'a>(alloc: Global, words: &'a [&'a str]) -> Result<Chosen<'a>,
     let station = one(&matches, "station");
     let by = one(&matches, "by");
     drop(matches);
-    let record = record_of(files)?;
-    Ok(Chosen::Gap {
-        setup: record.setup,
-        store: record.store,
-        station: needed(station)?,
-        by: needed(by)?,
-    })
+    match (files.setup, files.store, station, by) {
+        (Some(setup), Some(store), Some(station), Some(by)) => Ok(Chosen::Gap {
+            setup,
+            store,
+            station,
+            by,
+        }),
+        _ => Err(WordsFault::Missing),
+    }
 }
 
 pub(crate) fn resend<'a>(alloc: Global, words: &'a [&'a str]) -> Result<Chosen<'a>, WordsFault>
@@ -91,13 +100,15 @@ pub(crate) fn resend<'a>(alloc: Global, words: &'a [&'a str]) -> Result<Chosen<'
     let station = one(&matches, "station");
     let file = one(&matches, "file");
     drop(matches);
-    let record = record_of(files)?;
-    Ok(Chosen::Resend {
-        setup: record.setup,
-        store: record.store,
-        station: needed(station)?,
-        file: needed(file)?,
-    })
+    match (files.setup, files.store, station, file) {
+        (Some(setup), Some(store), Some(station), Some(file)) => Ok(Chosen::Resend {
+            setup,
+            store,
+            station,
+            file,
+        }),
+        _ => Err(WordsFault::Missing),
+    }
 }
 
 pub(crate) fn audit<'a>(alloc: Global, words: &'a [&'a str]) -> Result<Chosen<'a>, WordsFault>
@@ -117,13 +128,20 @@ fn audit_words<'a, 'b>(found: &'b ArgMatches<'a>) -> Result<AuditWords<'a>, Word
         (IsMissing commands.audit.needed (rows_of (found_of found.now))) }
 {
     let record = record_of(files_of(found))?;
+    let (Some(station), Some(day), Some(list)) = (
+        one(found, "station"),
+        one(found, "day"),
+        one(found, "list"),
+    ) else {
+        return Err(WordsFault::Missing);
+    };
     Ok(AuditWords {
         setup: record.setup,
         store: record.store,
-        station: needed(one(found, "station"))?,
-        day: needed(one(found, "day"))?,
+        station,
+        day,
         first: one(found, "first"),
         sealed: is_set(found, "sealed"),
-        list: needed(one(found, "list"))?,
+        list,
     })
 }

@@ -5,7 +5,7 @@ ghost use Rattle.std.specs.Prelude.{Some, codes};
 ghost use Rattle.command_words.specs.Commands as commands;
 ghost use Rattle.command_words.specs.Words.{Chooses, IsNamed, texts_of};
 
-use crate::reading::{files_of, needed, one, read, record_of};
+use crate::reading::{files_of, one, read, record_of};
 use crate::shapes::Name;
 use crate::{Chosen, WordsFault};
 use std::alloc::Global;
@@ -41,11 +41,13 @@ pub(crate) fn receipt<'a>(alloc: Global, words: &'a [&'a str]) -> Result<Chosen<
     if let Some(file) = check {
         return Ok(Chosen::CheckReceipt { file, entry, upto });
     }
-    let record = record_of(files)?;
-    Ok(Chosen::Receipt {
-        setup: record.setup,
-        store: record.store,
-        entry: needed(entry)?,
-        upto,
-    })
+    match (files.setup, files.store, entry) {
+        (Some(setup), Some(store), Some(entry)) => Ok(Chosen::Receipt {
+            setup,
+            store,
+            entry,
+            upto,
+        }),
+        _ => Err(WordsFault::Missing),
+    }
 }

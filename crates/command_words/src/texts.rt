@@ -183,7 +183,7 @@ codes, names and ISO days. The views are overdue and away. The file is a copy to
 read: the record doesn't change, and no command can open the file as a store.
 
 The file gets its name only when it is complete. Never overwrites: fails if PATH
-exists.
+exists, or a file PATH-wal.
 
 Prints the number of entries: 'exported 80000 entries'.
 

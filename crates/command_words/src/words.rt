@@ -91,13 +91,16 @@ fn replay<'a>(alloc: Global, words: &'a [&'a str]) -> Result<Chosen<'a>, WordsFa
     let strict = is_set(&matches, "strict");
     let why = is_set(&matches, "why");
     drop(matches);
-    Ok(Chosen::Replay {
-        setup: needed(files.setup)?,
-        store: files.store,
-        progress,
-        strict,
-        why,
-    })
+    match files.setup {
+        Some(setup) => Ok(Chosen::Replay {
+            setup,
+            store: files.store,
+            progress,
+            strict,
+            why,
+        }),
+        None => Err(WordsFault::Missing),
+    }
 }
 
 fn serve<'a>(alloc: Global, words: &'a [&'a str]) -> Result<Chosen<'a>, WordsFault>
@@ -108,11 +111,14 @@ fn serve<'a>(alloc: Global, words: &'a [&'a str]) -> Result<Chosen<'a>, WordsFau
     let files = files_of(&matches);
     let feeds = all(alloc, &matches, "feeds");
     drop(matches);
-    Ok(Chosen::Serve {
-        setup: needed(files.setup)?,
-        store: files.store,
-        feeds: feeds?,
-    })
+    match files.setup {
+        Some(setup) => Ok(Chosen::Serve {
+            setup,
+            store: files.store,
+            feeds: feeds?,
+        }),
+        None => Err(WordsFault::Missing),
+    }
 }
 
 fn desk<'a>(alloc: Global, words: &'a [&'a str]) -> Result<Chosen<'a>, WordsFault>
@@ -135,11 +141,18 @@ fn desk_words<'a, 'b>(found: &'b ArgMatches<'a>) -> Result<DeskWords<'a>, WordsF
         (HoldsDesk (rows_of (found_of found.now)))
         (IsMissing commands.desk.needed (rows_of (found_of found.now))) }
 {
-    let record = record_of(files_of(found))?;
+    let files = files_of(found);
+    let (Some(setup), Some(store), Some(station)) = (
+        files.setup,
+        files.store,
+        one(found, "station"),
+    ) else {
+        return Err(WordsFault::Missing);
+    };
     Ok(DeskWords {
-        setup: record.setup,
-        store: record.store,
-        station: needed(one(found, "station"))?,
+        setup,
+        store,
+        station,
         day: one(found, "day"),
         log: one(found, "log"),
         labels: one(found, "labels"),
@@ -201,12 +214,10 @@ fn copy<'a>(alloc: Global, words: &'a [&'a str]) -> Result<Chosen<'a>, WordsFaul
     let files = files_of(&matches);
     let to = one(&matches, "to");
     drop(matches);
-    let record = record_of(files)?;
-    Ok(Chosen::Copy {
-        setup: record.setup,
-        store: record.store,
-        to: needed(to)?,
-    })
+    match (files.setup, files.store, to) {
+        (Some(setup), Some(store), Some(to)) => Ok(Chosen::Copy { setup, store, to }),
+        _ => Err(WordsFault::Missing),
+    }
 }
 
 fn page<'a>(alloc: Global, words: &'a [&'a str]) -> Result<Chosen<'a>, WordsFault>
@@ -235,12 +246,10 @@ fn export<'a>(alloc: Global, words: &'a [&'a str]) -> Result<Chosen<'a>, WordsFa
     let files = files_of(&matches);
     let target = one(&matches, "to");
     drop(matches);
-    let record = record_of(files)?;
-    Ok(Chosen::Export {
-        setup: record.setup,
-        store: record.store,
-        to: needed(target)?,
-    })
+    match (files.setup, files.store, target) {
+        (Some(setup), Some(store), Some(to)) => Ok(Chosen::Export { setup, store, to }),
+        _ => Err(WordsFault::Missing),
+    }
 }
 
 fn grow<'a>(alloc: Global, words: &'a [&'a str]) -> Result<Chosen<'a>, WordsFault>

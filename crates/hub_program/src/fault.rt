@@ -28,7 +28,7 @@ pub enum CommandFault {
     WriteFailed,
     /// The log of a desk cannot be opened or written.
     Log(Advice),
-    /// A named file cannot be read, or a copy cannot be written.
+    /// A named file cannot be read, or a new file cannot be written.
     File(Advice),
     /// The setup at the head of the input is too long.
     HeadTooLong,
