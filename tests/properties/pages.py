@@ -9,7 +9,7 @@ import subprocess
 
 from common.museum import MuseumRoom
 from common.room import Skipped, same
-from oracle import streams
+from oracle import causes, streams
 from oracle.book import chain, is_container, targets
 from oracle.reports import Record
 from oracle.seals import seal_of
@@ -139,6 +139,14 @@ def location_rows(record):
         yield [*where, entry.station, entry.n]
 
 
+def entry_rows(record):
+    """The rows of the last entries, the newest first, each with what the report `why` says of it."""
+    count = len(record.posted)
+    for number in range(count, max(count - MOST, 0), -1):
+        *head, _, verdict, _, cause = causes.values(record.museum, record.posted, number)
+        yield [*head, verdict, cause]
+
+
 def number_rows(record, day, lines):
     """The museum in numbers, with the seal of these lines."""
     things, states = record.museum.things, [record.state(loan) for loan in loans(record.posted)]
@@ -170,7 +178,7 @@ ROOM = PageRoom
 
 def is_page(text, record, day, stations, lines):
     """Whether the page is well-formed, and has the record's numbers, seal, things, locations, loans
-    with their objects, objects away, stations and last entries."""
+    with their objects, objects away, stations and last entries with their causes."""
     page = Page(text)
     good = same((page.open, page.wrong), ([], []))
     numbers = {name: str(it) for name, it in number_rows(record, day, lines)}
@@ -183,8 +191,7 @@ def is_page(text, record, day, stations, lines):
     good &= same(page.table("Objects of each loan"), list(object_rows(record)))
     good &= same(page.table("Away from the normal location"), record.away_values())
     good &= same(page.table("Stations"), stations)
-    entries = [line.split()[:4] for line in record.entries()[-MOST:]]
-    return good & same(page.table("Last entries"), entries[::-1])
+    return good & same(page.table("Last entries"), list(entry_rows(record)))
 
 
 def test_pages(room, rounds=20):

@@ -5,12 +5,13 @@ use Rattle.std.specs.Prelude.{false}
 use Rattle.std.specs.Fmt.{digits}
 use Rattle.codes_core.specs.Day.{day_text}
 use Rattle.posting_core.specs.declared.message.Message.TheVariants.{Agree, Authorise, Exit}
+use Rattle.posting_core.specs.declared.message.Message.TheVariants.{Return}
 use Rattle.posting_core.specs.declared.entry.Entry.{Entry}
 use Rattle.posting_core.proofs.WorkedRows.{book, gal, may, moved, run}
 use Rattle.page_core.specs.Pieces.{Piece, page_text}
 use Rattle.reports.specs.Cells.{Cell, nothing, number, text}
 use Rattle.page_core.specs.Away.{away_rows}
-use Rattle.page_core.specs.Entries.{entry_rows}
+use Rattle.page_core.specs.Entries.{entry_row, entry_rows}
 use Rattle.page_core.specs.LoanObjects.{object_rows}
 use Rattle.page_core.specs.Loans.{loan_rows}
 use Rattle.page_core.specs.Numbers.{open_loans}
@@ -74,9 +75,25 @@ full = refl
 
 -- the newest entry comes first
 lent-entries : map page_text (entry_rows (book lent))
-    ≡ codes "<tr><td>4</td><td>GAL</td><td>4</td><td>Applied</td></tr>\n"
-    ∷ codes "<tr><td>3</td><td>GAL</td><td>3</td><td>Applied</td></tr>\n"
-    ∷ codes "<tr><td>2</td><td>GAL</td><td>2</td><td>Applied</td></tr>\n"
-    ∷ codes "<tr><td>1</td><td>GAL</td><td>1</td><td>Applied</td></tr>\n" ∷ []
+    ≡ (codes "<tr><td>4</td><td>GAL</td><td>4</td><td>Applied</td>"
+    ++ codes "<td>2001.4.1 went to MUSEUM-X</td></tr>\n")
+    ∷ codes "<tr><td>3</td><td>GAL</td><td>3</td><td>Applied</td><td></td></tr>\n"
+    ∷ codes "<tr><td>2</td><td>GAL</td><td>2</td><td>Applied</td><td></td></tr>\n"
+    ∷ (codes "<tr><td>1</td><td>GAL</td><td>1</td><td>Applied</td>"
+    ++ codes "<td>2001.4.1 went to S1</td></tr>\n") ∷ []
 unfolding digits
 lent-entries = refl
+
+-- the object is moved while it is away, and then comes back: the cause is by the record before the
+-- move
+abbrev returned : List Entry
+returned = run lent (
+    (gal, moved (codes "2001.4.1") (codes "S1"))
+    ∷ (gal, Return may (codes "2001.4.1") (codes "LO2024.1") (codes "S1"))
+    ∷ [])
+
+returned-cause : page_text (entry_row (book returned) 4)
+    ≡ codes "<tr><td>5</td><td>GAL</td><td>5</td><td>NotHere</td>"
+    ++ codes "<td>2001.4.1 is at MUSEUM-X</td></tr>\n"
+unfolding digits
+returned-cause = refl

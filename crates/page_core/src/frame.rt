@@ -107,7 +107,8 @@ pub(crate) const STATIONS: &str = "<h2>Stations</h2>\n\
 pub(crate) const ENTRIES: &str = "<h2>Last entries</h2>\n\
 <div class=\"wide\"><table>\n\
 <thead><tr><th scope=\"col\">Entry</th><th scope=\"col\">Station</th>\
-<th scope=\"col\">Number</th><th scope=\"col\">Verdict</th></tr></thead>\n\
+<th scope=\"col\">Number</th><th scope=\"col\">Verdict</th>\
+<th scope=\"col\">Cause</th></tr></thead>\n\
 <tbody>\n";
 
 /// After the rows of a table.

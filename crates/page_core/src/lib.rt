@@ -2,10 +2,12 @@
 //!
 //! [`write_page`] writes the page. Its contract promises each byte: it writes the text of the
 //! pieces that `specs/Pages` defines for the ledger, and after a fault only the beginning of that
-//! text. The rows of a section are made one at a time, as they are written. The page is never in
-//! memory. While it writes the locations of all things, it posts the entries once more, to a second
-//! ledger: a row has the containers that the thing was in right after the entry.
-//! [`write_page_as_of`] does the same for the record as it was after an earlier entry.
+//! text. The rows of a section are made one at a time, as they are written, except those of the
+//! last entries. The page is never in memory. While it writes the locations of all things, it posts
+//! the entries once more, to a second ledger: a row has the containers that the thing was in right
+//! after the entry. It does so again for the last entries, because the cause of a verdict depends
+//! on the record before the entry. [`write_page_as_of`] does the same for the record as it was
+//! after an earlier entry.
 //!
 //! ```text
 //! write_page(alloc, hub.ledger(), Some(today), &mut out)?;

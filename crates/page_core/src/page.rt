@@ -30,8 +30,9 @@ use std::io::Write;
 ///
 /// Fails with `NoMemory` or `WriteFailed`, after the beginning of the page. It takes memory for one
 /// row at a time, for two lines of the tree for each place and each thing, then for a second ledger
-/// and the rows of one entry while it writes the locations of all things, and then for each overdue
-/// loan and for each object that is away from its normal location.
+/// and the rows of one entry while it writes the locations of all things, then for each overdue
+/// loan and for each object that is away from its normal location, and at the end again for a
+/// second ledger, to find the causes of the last entries, and for the rows of these entries.
 pub fn write_page<W: Write>(
     alloc: Global,
     ledger: &Ledger,
@@ -174,5 +175,6 @@ fn write_entries<W: Write>(alloc: Global, ledger: &Ledger, out: &mut W) -> Resul
     ensures { Writes (W.contents out.old) (W.contents out.new) result
         (page_text (entries ledger.now)) }
 {
-    write_section(alloc, ENTRIES, &LastEntries { ledger }, TABLE_END, out)
+    let rows = LastEntries::find(alloc, ledger)?;
+    write_section(alloc, ENTRIES, &rows, TABLE_END, out)
 }

@@ -1,0 +1,13 @@
+-- Rows that are kept oldest first, and shown newest first.
+use Rattle.std.proofs.Common.{◌≡◌, ◌∙◌, ◌++◌, ◌∷◌, [], List, ap, map, refl, reverse, sym}
+use Rattle.std.proofs.lemmas.List.{map-append, reverse-append}
+
+-- what is made of each element of a list in reverse
+pub map-reverse : {X Y : Type 0} (f : X → Y) (xs : List X)
+    → map f (reverse xs) ≡ reverse (map f xs)
+map-reverse f [] = refl
+map-reverse f (x ∷ xs) =
+    ap (map f) (reverse-append (x ∷ []) xs)
+    ∙ (map-append f (reverse xs) (x ∷ [])
+    ∙ (ap (λ ys. ys ++ f x ∷ []) (map-reverse f xs)
+    ∙ sym (reverse-append (f x ∷ []) (map f xs))))
