@@ -165,6 +165,29 @@ def test_exports(room, rounds=20):
     return good
 
 
+def test_long_tables(room):
+    """A table with more rows than a statement inserts has all of them, each once."""
+    places = [f"S{n}" for n in range(1, 1002)]
+    things = [f"2000.{n // 1000 + 1}.{n % 1000 + 1}" for n in range(501)]
+    setup = ["station,GAL", *(f"place,{code},inside" for code in places)]
+    room.write("setup.csv", "".join(f"{row}\n" for row in setup + [f"own,{it},S1" for it in things]))
+    moved = [(n, "2024-05-01", things[n % 3], places[n], None, "GAL", n) for n in range(1, 1001)]
+    lines = "".join(
+        f'{{"station":"GAL","n":{n},"message":{{"kind":"move","thing":"{thing}",'
+        f'"place":"{place}","day":"{day}"}}}}\n'
+        for n, day, thing, place, *_ in moved
+    )
+    words = ["--setup", "setup.csv", "--store", "museum.db"]
+    room.run("replay", *words, given=lines)
+    good = same(exported(room, *words)[0], "exported 1000 entries\n")
+    _, rows, sound = read(room.path("flat.db"))
+    good &= same(sound, [("ok",)]) and same(rows["movement"], moved)
+    good &= same([code for code, _ in rows["place"]], places)
+    good &= same([row[0] for row in rows["thing"]], things)
+    message = [(n, "GAL", n, "move", "Applied") for n in range(1, 1001)]
+    return good & same([row[:5] for row in rows["message"]], message)
+
+
 def test_overdue(room):
     """The view `overdue` goes by the day of the table `record`, which a reader can change."""
     room.write("setup.csv", streams.SETUP)

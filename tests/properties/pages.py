@@ -213,6 +213,23 @@ def test_pages(room, rounds=20):
     return good
 
 
+def test_last_entries(room):
+    """Of a record with more entries than the page lists, it has the last ones, the newest first, each
+    with its cause."""
+    room.write("setup.csv", "station,GAL\nplace,S1,inside\nplace,S2,inside\nown,2001.1.1,S1\n")
+    moved = [(str(n), f"S{n % 2 + 1}") for n in range(1, MOST + 51)]
+    lines = "".join(
+        f'{{"station":"GAL","n":{n},"message":{{"kind":"move","thing":"2001.1.1",'
+        f'"place":"{place}","day":"2024-05-01"}}}}\n'
+        for n, place in moved
+    )
+    words = ["--setup", "setup.csv", "--store", "museum.db"]
+    room.run("replay", *words, given=lines)
+    page = Page(room.printed("page", *words))
+    rows = [[n, "GAL", n, "Applied", f"2001.1.1 went to {place}"] for n, place in moved]
+    return same(page.table("Last entries"), rows[:-MOST - 1:-1])
+
+
 def test_checker(room):
     """html5lib, which finds each error in a page of HTML, finds none."""
     if subprocess.run([PYTHON, "-c", "import html5lib"], capture_output=True, check=False).returncode:
