@@ -25,7 +25,7 @@ class Refused:
     """One run of a case, with the files that stand before it.
 
     A run with a refused growth writes a front of its lines, each whole, and then `fault memory`,
-    with status 1. It may end as if nothing had been refused, too, where it does without that
+    with status 1. A page ends after any part of its text. It may end as if nothing had been refused, too, where it does without that
     growth. If it has a store, the same run over what it left posts the rest: the record is then
     that of a run with nothing refused. Of a run of several stations at once a front is that of each
     station; it may end so, too, since threads ask in no fixed order. Of what it posted it has
@@ -85,7 +85,9 @@ class Refused:
         return not left
 
     def is_front(self, out, whole=False):
-        """Whether these are the run's first lines, or all of them."""
+        """Whether these are the run's first lines, or all of them. A page may end within a line."""
+        if self.words[:1] == ["page"] and not whole:
+            return self.wanted[1].startswith(out)
         lines = out.splitlines(keepends=True)
         if self.merges:
             stations = {line.split(b" ")[0] for line in self.lines + lines}
