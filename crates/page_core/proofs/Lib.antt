@@ -1,4 +1,5 @@
 pub mod Counting
+pub mod PlaceCounts
 pub mod Reversed
 pub mod Sections
 pub mod TreeLines

@@ -2,6 +2,7 @@
 use Rattle.std.specs.Prelude.{ℕ, ◌∷◌, [], ◌<◌, ◌&&◌, Bool, List, None, Some, codes}
 use Rattle.std.specs.Prelude.{filter, length, map}
 use Rattle.std.specs.Prelude.{if◌then◌else◌, not}
+use Rattle.std.specs.List.{range_with_len}
 use Rattle.nest_core.specs.Museum.{Museum, is_container}
 use Rattle.nest_core.specs.Nest.{is_same_place}
 use Rattle.posting_core.specs.Book.{Book, place_in}
@@ -39,6 +40,12 @@ is_object_at B p x = not (is_container B.museum x) && is_same_place (place_in B 
 -- The number of objects at place p, also of those in containers.
 abbrev pub objects_at : Book → ℕ → ℕ
 objects_at B p = length (filter (is_object_at B p) (things_of B))
+
+-- The number of objects at each place, among the first n things.
+abbrev pub counts_among : Book → ℕ → List ℕ
+counts_among B n =
+    map (λ p. length (filter (is_object_at B p) (range_with_len 0 n)))
+    (range_with_len 0 (length B.museum.places))
 
 -- The number of objects in container c, at any depth.
 abbrev pub objects_in : Book → ℕ → ℕ

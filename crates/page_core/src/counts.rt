@@ -1,12 +1,13 @@
 //! The numbers of objects at the nodes of the tree.
-ghost use Rattle.std.specs.Prelude.{◌≡◌, ◌<◌, ◌≤◌, All, IfOk, filter, length, not};
+ghost use Rattle.std.specs.Prelude.{◌≡◌, ◌<◌, ◌≤◌, ◌+◌, All, IfOk, filter, length, map, not};
+ghost use Rattle.std.specs.List.{range_with_len};
 ghost use Rattle.nest_core.specs.Museum.{is_container};
 ghost use Rattle.reports.specs.LoanLists.{is_open};
 ghost use Rattle.page_core.specs.Numbers.{objects_in as objects_in_setup, open_loans};
-ghost use Rattle.page_core.specs.TreeRows.{is_object_at, objects_at, objects_in};
+ghost use Rattle.page_core.specs.TreeRows.{counts_among, objects_at, objects_in};
 
 use codes_core::{LoanCode, NoMemory, ThingKind};
-use nest_core::{PlaceNo, Setup, ThingNo};
+use nest_core::{Setup, ThingNo};
 use posting_core::{Ledger, LoanState};
 use std::alloc::Global;
 
@@ -43,24 +44,29 @@ fn is_open(ledger: &Ledger, loan: &LoanCode) -> bool
     !matches!(ledger.loan_state(loan), Some(LoanState::Closed))
 }
 
-/// The number of objects at a place, also of those in containers.
-pub(crate) fn objects_at(ledger: &Ledger, place: PlaceNo) -> u64
-    ensures { result ≡ objects_at ledger.now place }
+/// The number of objects at each place, also of those in containers. Fails with `NoMemory`.
+pub(crate) fn objects_at_places(alloc: Global, ledger: &Ledger) -> Result<Vec<u64>, NoMemory>
+    ensures { IfOk result (λ counts. counts.items
+        ≡ map (objects_at ledger.now) (range_with_len 0 (length ledger.now.museum.places))) }
 {
-    let mut count = 0;
+    let mut counts = vec![in alloc; 0; ledger.setup().places() as usize]?;
     for thing in 0..ledger.setup().things() {
-        if is_object_at(ledger, place, thing) {
-            count += 1;
-        }
+        count_at_place(ledger, thing, counts.as_mut_slice());
     }
-    count
+    Ok(counts)
 }
 
-fn is_object_at(ledger: &Ledger, place: PlaceNo, thing: ThingNo) -> bool
-    requires { thing < length ledger.now.museum.things }
-    ensures { result ≡ is_object_at ledger.now place thing }
+/// Counts the next thing at its place, if it is an object.
+fn count_at_place(ledger: &Ledger, thing: ThingNo, counts: &mut [u64])
+    requires thing { thing < length ledger.now.museum.things }
+    requires counts { counts.old ≡ counts_among ledger.now thing }
+    ensures { counts.new ≡ counts_among ledger.now (thing + 1) }
 {
-    is_object(ledger.setup(), thing) && ledger.place_of(thing) == Some(place)
+    if is_object(ledger.setup(), thing) {
+        if let Some(place) = ledger.place_of(thing) {
+            counts[place as usize] += 1;
+        }
+    }
 }
 
 fn is_object(setup: &Setup, thing: ThingNo) -> bool

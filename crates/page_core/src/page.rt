@@ -29,10 +29,11 @@ use std::io::Write;
 /// are overdue on the day `on`; without a day, it marks none.
 ///
 /// Fails with `NoMemory` or `WriteFailed`, after the beginning of the page. It takes memory for one
-/// row at a time, for two lines of the tree for each place and each thing, then for a second ledger
-/// and the rows of one entry while it writes the locations of all things, then for each overdue
-/// loan and for each object that is away from its normal location, and at the end again for a
-/// second ledger, to find the causes of the last entries, and for the rows of these entries.
+/// row at a time, for two lines of the tree for each place and each thing and 8 bytes for each
+/// place, then for a second ledger and the rows of one entry while it writes the locations of all
+/// things, then for each overdue loan and for each object that is away from its normal location,
+/// and at the end again for a second ledger, to find the causes of the last entries, and for the
+/// rows of these entries.
 pub fn write_page<W: Write>(
     alloc: Global,
     ledger: &Ledger,

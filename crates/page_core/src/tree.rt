@@ -1,13 +1,14 @@
 //! The rows of the tree.
 ghost use Rattle.std.specs.Prelude.{◌≡◌, ◌<◌, All, IfOk, length, map, string_bytes};
+ghost use Rattle.std.specs.List.{range_with_len};
 ghost use Rattle.std.proofs.Props.{props};
 ghost use Rattle.nest_core.specs.Museum.{is_container};
 ghost use Rattle.page_core.specs.Pieces.{page_text};
 ghost use Rattle.page_core.specs.Tree.{lines_at, tree_lines};
 ghost use Rattle.page_core.specs.TreeRows.{IsLineIn, container_row, line_text, node_end};
-ghost use Rattle.page_core.specs.TreeRows.{object_end, object_row, place_row};
+ghost use Rattle.page_core.specs.TreeRows.{object_end, object_row, objects_at, place_row};
 
-use crate::counts::{objects_at, objects_in};
+use crate::counts::{objects_at_places, objects_in};
 use crate::escapes::escaped;
 use crate::lines::{Line, tree_lines, unplaced_lines};
 use codes_core::{NoMemory, ThingKind};
@@ -21,7 +22,11 @@ use std::alloc::Global;
 pub(crate) struct Tree<'a> {
     ledger: &'a Ledger,
     lines: Vec<Line>,
+    /// The number of objects at each place.
+    counts: Vec<u64>,
     ghost within: { All (IsLineIn ledger.now.museum) lines.items } by { Prim.hlevel props },
+    ghost counted: { counts.items
+        ≡ map (objects_at ledger.now) (range_with_len 0 (length ledger.now.museum.places)) },
 }
 
 impl<'a> Rows for Tree<'a> {
@@ -35,7 +40,7 @@ impl<'a> Rows for Tree<'a> {
     }
 
     fn row(&self, alloc: Global, i: usize) -> Result<String, NoMemory> {
-        line_row(alloc, self.ledger, self.lines[i])
+        line_row(alloc, self.ledger, self.counts.as_slice(), self.lines[i])
     }
 }
 
@@ -46,7 +51,12 @@ impl<'a> Tree<'a> {
             ≡ map (line_text ledger.entry.now) (tree_lines ledger.entry.now)) }
     {
         let lines = tree_lines(alloc, ledger)?;
-        Ok(Tree { ledger, lines })
+        let counts = objects_at_places(alloc, ledger)?;
+        Ok(Tree {
+            ledger,
+            lines,
+            counts,
+        })
     }
 
     /// Finds the lines of the things that were never placed. Fails with `NoMemory`.
@@ -55,17 +65,24 @@ impl<'a> Tree<'a> {
             ≡ map (line_text ledger.entry.now) (lines_at ledger.entry.now None)) }
     {
         let lines = unplaced_lines(alloc, ledger)?;
-        Ok(Tree { ledger, lines })
+        let counts = objects_at_places(alloc, ledger)?;
+        Ok(Tree {
+            ledger,
+            lines,
+            counts,
+        })
     }
 }
 
 /// The row of a line.
-fn line_row(alloc: Global, ledger: &Ledger, line: Line) -> Result<String, NoMemory>
-    requires { IsLineIn ledger.now.museum line }
+fn line_row(alloc: Global, ledger: &Ledger, counts: &[u64], line: Line) -> Result<String, NoMemory>
+    requires within { IsLineIn ledger.now.museum line }
+    requires counts { counts.now
+        ≡ map (objects_at ledger.now) (range_with_len 0 (length ledger.now.museum.places)) }
     ensures { IfOk result (λ row. string_bytes row ≡ line_text ledger.now line) }
 {
     match line {
-        Line::PlaceBegin(place) => place_row(alloc, ledger, place),
+        Line::PlaceBegin(place) => place_row(alloc, ledger, counts, place),
         Line::PlaceEnd => node_end(alloc),
         Line::ThingBegin(thing) if is_container(ledger.setup(), thing) => {
             container_row(alloc, ledger, thing)
@@ -84,13 +101,20 @@ fn is_container(setup: &Setup, thing: ThingNo) -> bool
 }
 
 /// The row before everything at a place.
-fn place_row(alloc: Global, ledger: &Ledger, place: PlaceNo) -> Result<String, NoMemory>
-    requires { place < length ledger.now.museum.places }
+fn place_row(
+    alloc: Global,
+    ledger: &Ledger,
+    counts: &[u64],
+    place: PlaceNo,
+) -> Result<String, NoMemory>
+    requires place { place < length ledger.now.museum.places }
+    requires counts { counts.now
+        ≡ map (objects_at ledger.now) (range_with_len 0 (length ledger.now.museum.places)) }
     ensures { IfOk result (λ row. string_bytes row ≡ page_text (place_row ledger.now place)) }
 {
     let code = ledger.setup().place_code(place);
     let code = escaped(alloc, code.as_str())?;
-    let count = objects_at(ledger, place);
+    let count = counts[place as usize];
     Ok(format!(in alloc; "<li><details><summary>{code} <small>{count}</small></summary><ul>\n")?)
 }
 

@@ -8,4 +8,5 @@ pub invariant_of-result : goal.invariant_of-result
 invariant_of-result c = record {
   within = subst (λ (lines : List Line). All (IsLineIn c.args.ledger.now.museum) lines)
       (sym c.in_ok-lines.ensures) (tree_within c.args.ledger.now);
+  counted = c.in_ok-counts.ensures;
 }
