@@ -65,6 +65,18 @@ def test_seals(room, rounds=5):
     return good
 
 
+def test_many_entries(room, entries=4200):
+    """A seal of many entries, which are hashed in blocks of 1,024 by several threads, is that of
+    RFC 6962, too, and so is one that ends beside the end of a block."""
+    good = room.post_moves(entries)
+    lines = room.lines()
+    sizes = [*range(1023, 1026), *range(2047, 2050), room.draws.randint(2050, entries), entries]
+    seals = [seal_of(lines[:size]) for size in sizes]
+    got = [room.printed("seal", "--upto", str(size), *RECORD) for size in sizes]
+    held = "".join(f"{size} holds\n" for size in sizes)
+    return same(got, seals) and same(room.checked("".join(seals)), (0, held)) and good
+
+
 def test_receipts(room, rounds=10):
     """Each receipt is that of RFC 6962, and holds, and one of another line is broken."""
     good = room.post_moves(room.draws.randint(1, 40))

@@ -7,7 +7,7 @@ use Rattle.std.proofs.lemmas.List.{append_assoc, append-nil}
 use Rattle.section_core.proofs.Joins.{joined_alike}
 use Rattle.section_core.proofs.WrittenText.{lines_more}
 
--- what is made of one more element, after what was there
+-- the rows of one more element, after those that were there
 pub one_more : {X Y : Type 0} (f : X → List Y) (xs : List X) (i : ℕ) (old before after : List Y)
     (x : X) → slice_get xs i ≡ Some x → before ≡ old ++ flat_map f (take i xs)
     → after ≡ before ++ f x → after ≡ old ++ flat_map f (take (i + 1) xs)

@@ -166,7 +166,7 @@ fn perform<
                 upto: *upto,
                 check: *check,
             };
-            seal_record(rt, wanted, start, input, output, notes)
+            seal_record(rt, threads, wanted, start, input, output, notes)
         }
         Chosen::Receipt {
             setup,
@@ -199,7 +199,7 @@ fn perform<
                 on: *on,
                 upto: *upto,
             };
-            let closed = give_page(rt, wanted, start, output)?;
+            let closed = give_page(rt, threads, wanted, start, output)?;
             Ok(Ending::Done(Some(closed)))
         }
         Chosen::Export { setup, store, to } => {

@@ -16,6 +16,7 @@ use reports::PrintFault;
 use sqlite::Start;
 use std::alloc::Global;
 use std::io::Write;
+use std::thread::Threads;
 
 /// The arguments of `page`.
 #[derive(Clone, Copy)]
@@ -31,8 +32,9 @@ pub struct PageWords<'a> {
 /// Faults, in this order: Day, if the value of `--on` is no day; Number, if the value of `--upto`
 /// is no number; those of the setup's file, and of the setup; those of opening the store, of
 /// checking its record, and of closing it; WriteFailed. NoMemory can come instead of any of them.
-pub fn give_page<'a, S: Start, W: Write>(
+pub fn give_page<'a, T: Threads + Sync, S: Start, W: Write>(
     rt: &HostRuntime,
+    threads: &T,
     wanted: PageWords<'a>,
     start: S,
     output: &mut W,
@@ -42,13 +44,14 @@ pub fn give_page<'a, S: Start, W: Write>(
     let on = day_if(rt.alloc(), wanted.on)?;
     let upto = number_if(rt.alloc(), wanted.upto)?;
     let (ledger, closed) = read_record(rt, wanted.setup, wanted.store, start)?;
-    print_page(rt.alloc(), &ledger, on, upto, output)?;
+    print_page(threads, rt.alloc(), &ledger, on, upto, output)?;
     Ok(closed)
 }
 
 /// Prints the page of the record as it is or, with `upto`, as it was after this entry. Loans that
 /// are overdue on the day `on` are marked. Faults: WriteFailed; NoMemory.
-fn print_page<W: Write>(
+fn print_page<T: Threads + Sync, W: Write>(
+    threads: &T,
     alloc: Global,
     ledger: &Ledger,
     on: Option<Day>,
@@ -58,7 +61,7 @@ fn print_page<W: Write>(
     ensures { OnOk result (Appends (W.contents output.old) (W.contents output.new)
         (page_text (page (as_of upto ledger.now) on))) }
 {
-    match write_page_as_of(alloc, ledger, upto, on, output) {
+    match write_page_as_of(threads, alloc, ledger, upto, on, output) {
         Ok(()) => Ok(()),
         Err(PrintFault::NoMemory) => Err(CommandFault::NoMemory),
         Err(PrintFault::WriteFailed) => Err(CommandFault::WriteFailed),

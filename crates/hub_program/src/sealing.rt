@@ -21,6 +21,7 @@ use seal_core::{
 use sqlite::Start;
 use std::alloc::Global;
 use std::io::{BufRead, Write};
+use std::thread::Threads;
 use table_core::past_mark;
 
 /// The arguments of `seal`.
@@ -48,8 +49,9 @@ pub struct ReceiptWords<'a> {
 /// `--upto` is no number; those of the file of seals; those of the setup's file, and of the setup;
 /// those of opening the store, of checking its record, and of closing it; Number, if the record has
 /// fewer entries; WriteFailed. NoMemory can come instead of any of them.
-pub fn seal_record<'a, S: Start, R: BufRead, W: Write>(
+pub fn seal_record<'a, T: Threads + Sync, S: Start, R: BufRead, W: Write>(
     rt: &HostRuntime,
+    threads: &T,
     wanted: SealWords<'a>,
     start: S,
     input: &mut R,
@@ -59,17 +61,18 @@ pub fn seal_record<'a, S: Start, R: BufRead, W: Write>(
     ensures { IfOk result (λ ending. kept_in ending ≡ Some wanted.entry.store.now) }
 {
     if let Some(file) = wanted.check {
-        return compare_seals(rt, wanted, file, start, input, output, notes);
+        return compare_seals(rt, threads, wanted, file, start, input, output, notes);
     }
     let upto = entry_if(rt.alloc(), wanted.upto)?;
     let (ledger, closed) = read_record(rt, wanted.setup, wanted.store, start)?;
-    print_seal(rt.alloc(), &ledger, upto, output)?;
+    print_seal(threads, rt.alloc(), &ledger, upto, output)?;
     Ok(Ending::Done(Some(closed)))
 }
 
 /// Prints whether the seals in a file hold.
-fn compare_seals<'a, S: Start, R: BufRead, W: Write>(
+fn compare_seals<'a, T: Threads + Sync, S: Start, R: BufRead, W: Write>(
     rt: &HostRuntime,
+    threads: &T,
     wanted: SealWords<'a>,
     file: &str,
     start: S,
@@ -84,7 +87,14 @@ fn compare_seals<'a, S: Start, R: BufRead, W: Write>(
     }
     let bytes = read_named(rt, file, input)?;
     let (ledger, closed) = read_record(rt, wanted.setup, wanted.store, start)?;
-    if print_checks(rt.alloc(), &ledger, past_mark(&bytes), output, notes)? {
+    if print_checks(
+        threads,
+        rt.alloc(),
+        &ledger,
+        past_mark(&bytes),
+        output,
+        notes,
+    )? {
         return Ok(Ending::Done(Some(closed)));
     }
     Ok(Ending::NotApplied(Some(closed)))
@@ -139,7 +149,8 @@ pub fn check_given<'a, R: BufRead, W: Write>(
 
 /// Prints the seal. Faults, in this order: Number, if the record has fewer entries; WriteFailed;
 /// NoMemory.
-fn print_seal<W: Write>(
+fn print_seal<T: Threads + Sync, W: Write>(
+    threads: &T,
     alloc: Global,
     ledger: &Ledger,
     upto: Option<EntryNo>,
@@ -148,7 +159,7 @@ fn print_seal<W: Write>(
     ensures { OnOk result (Appends (W.contents output.old) (W.contents output.new)
         (seal_line ledger.now upto)) }
 {
-    match seal_line(alloc, ledger, upto) {
+    match seal_line(threads, alloc, ledger, upto) {
         Ok(line) => write_line(output, &line),
         Err(fault) => Err(fault_of_sealing(alloc, ledger, upto, fault)),
     }
@@ -156,7 +167,8 @@ fn print_seal<W: Write>(
 
 /// Prints whether the seals in a file hold, and adds help to the notes. Returns whether the file
 /// has a seal, and each line that is not empty is a seal that holds. Faults: WriteFailed; NoMemory.
-fn print_checks<W: Write>(
+fn print_checks<T: Threads + Sync, W: Write>(
+    threads: &T,
     alloc: Global,
     ledger: &Ledger,
     bytes: &[u8],
@@ -167,7 +179,7 @@ fn print_checks<W: Write>(
         (W.contents output.old) (W.contents output.new)
         (string_bytes notes.old) (string_bytes notes.new)) }
 {
-    let checked = check_seals(alloc, ledger, bytes)?;
+    let checked = check_seals(threads, alloc, ledger, bytes)?;
     write_line(output, &checked.text)?;
     notes.push_str(checked.help)?;
     Ok(checked.is_fine)

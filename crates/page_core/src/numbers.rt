@@ -4,7 +4,6 @@ ghost use Rattle.page_core.specs.Pieces.{page_text};
 ghost use Rattle.page_core.specs.Numbers.{day_row, entries_row, numbers_row, setup_row};
 
 use crate::counts::{objects_of, open_loans};
-use crate::seal::seal_row;
 use crate::values::escaped_day;
 use codes_core::{Day, NoMemory};
 use nest_core::Setup;
@@ -18,15 +17,16 @@ pub(crate) struct Numbers<'a> {
     pub ledger: &'a Ledger,
     /// The day on which loans are overdue, if one is given.
     pub on: Option<Day>,
+    /// The row of the seal.
+    pub seal: &'a str,
 }
 
 impl<'a> Rows for Numbers<'a> {
     ghost use Rattle.std.specs.Prelude.{◌∷◌, []};
     ghost use Rattle.page_core.specs.Pieces.{page_text};
-    ghost use Rattle.page_core.specs.Numbers.{numbers_row, seal_row};
+    ghost use Rattle.page_core.specs.Numbers.{numbers_row};
 
-    ghost texts = { λ s.
-        page_text (numbers_row s.ledger.now s.on) ∷ page_text (seal_row s.ledger.now) ∷ [] };
+    ghost texts = { λ s. page_text (numbers_row s.ledger.now s.on) ∷ s.seal.now ∷ [] };
 
     fn len(&self) -> usize {
         2
@@ -36,7 +36,7 @@ impl<'a> Rows for Numbers<'a> {
         if i == 0 {
             numbers_row(alloc, self.ledger, self.on)
         } else {
-            seal_row(alloc, self.ledger)
+            Ok(String::from_str(alloc, self.seal)?)
         }
     }
 }

@@ -16,6 +16,7 @@ use crate::loan_objects::LoanObjects;
 use crate::loans::Loans;
 use crate::numbers::Numbers;
 use crate::script::PAGE_END;
+use crate::seal::seal_row;
 use crate::stations::Stations;
 use crate::tree::Tree;
 use codes_core::Day;
@@ -24,6 +25,7 @@ use reports::PrintFault;
 use section_core::{write_section, write_text};
 use std::alloc::Global;
 use std::io::Write;
+use std::thread::Threads;
 
 /// Writes the page of a record: one file of HTML 5, with its style inside. It marks the loans that
 /// are overdue on the day `on`; without a day, it marks none.
@@ -35,6 +37,7 @@ use std::io::Write;
 /// and at the end again for a second ledger, to find the causes of the last entries, and for the
 /// rows of these entries.
 pub fn write_page<W: Write>(
+    rt: &(impl Threads + Sync),
     alloc: Global,
     ledger: &Ledger,
     on: Option<Day>,
@@ -43,13 +46,14 @@ pub fn write_page<W: Write>(
     ensures { Writes (W.contents out.old) (W.contents out.new) result
         (page_text (page ledger.now on)) }
 {
-    write_locations(alloc, ledger, &on, out)?;
+    write_locations(rt, alloc, ledger, &on, out)?;
     write_lending(alloc, ledger, &on, out)?;
     write_posts(alloc, ledger, out)
 }
 
 /// Writes where everything is and was.
 fn write_locations<W: Write>(
+    rt: &(impl Threads + Sync),
     alloc: Global,
     ledger: &Ledger,
     on: &Option<Day>,
@@ -58,7 +62,7 @@ fn write_locations<W: Write>(
     ensures { Writes (W.contents out.old) (W.contents out.new) result
         (page_text (locations ledger.now on.now)) }
 {
-    write_numbers(alloc, ledger, on, out)?;
+    write_numbers(rt, alloc, ledger, on, out)?;
     write_tree(alloc, ledger, out)?;
     write_unplaced(alloc, ledger, out)?;
     write_histories(alloc, ledger, out)
@@ -91,6 +95,7 @@ fn write_posts<W: Write>(alloc: Global, ledger: &Ledger, out: &mut W) -> Result<
 
 /// Writes the head, the museum in numbers, the day, if one is given, and the seal.
 fn write_numbers<W: Write>(
+    rt: &(impl Threads + Sync),
     alloc: Global,
     ledger: &Ledger,
     on: &Option<Day>,
@@ -99,7 +104,13 @@ fn write_numbers<W: Write>(
     ensures { Writes (W.contents out.old) (W.contents out.new) result
         (page_text (numbers ledger.now on.now)) }
 {
-    write_section(alloc, HEAD, &Numbers { ledger, on: *on }, NUMBERS_END, out)
+    let seal = seal_row(rt, alloc, ledger)?;
+    let rows = Numbers {
+        ledger,
+        on: *on,
+        seal: seal.as_str(),
+    };
+    write_section(alloc, HEAD, &rows, NUMBERS_END, out)
 }
 
 /// Writes where everything is.

@@ -11,11 +11,13 @@ use posting_core::{Ledger, past};
 use reports::PrintFault;
 use std::alloc::Global;
 use std::io::Write;
+use std::thread::Threads;
 
 /// Writes the page of the record as it is or, with `upto`, as it was after this entry. Fails as
 /// [`write_page`] does. For an earlier record it first builds a ledger with the entries up to this
 /// one, which takes time and memory.
 pub fn write_page_as_of<W: Write>(
+    rt: &(impl Threads + Sync),
     alloc: Global,
     ledger: &Ledger,
     upto: Option<u64>,
@@ -26,13 +28,14 @@ pub fn write_page_as_of<W: Write>(
         (page_text (page (as_of upto ledger.now) on)) }
 {
     match upto {
-        None => write_page(alloc, ledger, on, out),
-        Some(entry) => write_past_page(alloc, ledger, entry, on, out),
+        None => write_page(rt, alloc, ledger, on, out),
+        Some(entry) => write_past_page(rt, alloc, ledger, entry, on, out),
     }
 }
 
 /// Writes the page of the record as it was after this entry.
 fn write_past_page<W: Write>(
+    rt: &(impl Threads + Sync),
     alloc: Global,
     ledger: &Ledger,
     entry: u64,
@@ -43,7 +46,7 @@ fn write_past_page<W: Write>(
         (page_text (page (upto ledger.now entry) on)) }
 {
     let past = past(alloc, ledger, entry as usize)?;
-    let ended = write_page(alloc, &past, on, out);
+    let ended = write_page(rt, alloc, &past, on, out);
     drop(past);
     ended
 }

@@ -25,3 +25,5 @@ pub mod PeakLemmas
 mod Worked
 pub mod Rows
 mod WorkedFiles
+pub mod Blocks
+pub mod Results

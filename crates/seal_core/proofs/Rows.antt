@@ -1,6 +1,6 @@
 -- The rows of a file with one more line.
 use Rattle.std.proofs.Common.{◌≡◌, ℕ, ◌+◌, ◌<◌, ◌≤◌, ◌++◌, ◌∷◌, ◌∙◌, Bor, List, [], ap, arith}
-use Rattle.std.proofs.Common.{get_or, length, map, subst, sym, take}
+use Rattle.std.proofs.Common.{get_or, length, map, refl, subst, sym, take}
 use Rattle.std.proofs.Math.ListN.{drop_of_length-le}
 use Rattle.std.proofs.lemmas.List.{append-nil, length-map, length-take-le, map-append, take_more}
 use Rattle.std.proofs.lemmas.List.{take-append-drop}
@@ -74,3 +74,10 @@ all_lines pieces i past =
     (sym (append-nil (take i pieces))
     ∙ (ap (λ more. take i pieces ++ more) (sym (drop_of_length-le pieces past))
     ∙ take-append-drop i pieces))
+
+-- A line that is not empty, and its row.
+pub with_row : (B : Book) (n : ℕ) (line : List ℕ) (rows rows' : List CheckedSeal)
+    (row : CheckedSeal) → (line ≡ [] → ⊥) → IsChecked B n line row → rows' ≡ rows ++ row ∷ []
+    → AddsRow B n line rows rows'
+with_row B n [] rows rows' row some is added = absurd (some refl)
+with_row B n (b ∷ line) rows rows' row some is added = record { row = row; is = is; added = added }

@@ -13,3 +13,4 @@ pub mod FileLines
 pub mod SealChecks
 pub mod Printing
 pub mod ReceiptChecks
+pub mod Blocks

@@ -16,16 +16,16 @@
 //! sequence of bytes. The hash is SHA-256.
 //!
 //! ```text
-//! let seal = make_seal(alloc, ledger, None)?;
+//! let seal = make_seal(rt, alloc, ledger, None)?;
 //! seal_text(alloc, &seal)?;                       // 80000 sha256:1029..
 //! let seal = read_seal(b"80000 sha256:1029..")?;
-//! check_seal(alloc, ledger, &seal)?;              // true, also after more entries are posted
+//! check_seal(rt, alloc, ledger, &seal)?;          // true, also after more entries are posted
 //!
 //! let receipt = make_receipt(alloc, ledger, 12, None)?;
 //! receipt_text(alloc, &receipt)?;                 // {"entry":12,"head":"1029..",..}
 //! check_receipt(&receipt);                        // true
 //!
-//! let checked = check_seals(alloc, ledger, bytes)?;   // 79000 holds, 80000 broken, line 3 bad ..
+//! let checked = check_seals(rt, alloc, ledger, bytes)?; // 79000 holds, 80000 broken, line 3 bad
 //!
 //! let hashes = [leaf_hash(b"first"), leaf_hash(b"second")];
 //! let path = audit_path(alloc, &hashes, 1)?;          // of leaf 1, counted from 0
@@ -53,6 +53,7 @@ mod seal_check;
 mod sealing;
 pub mod tree_laws;
 mod trees;
+mod workers;
 
 pub use builder::HeadBuilder;
 pub use hashes::leaf_hash;

@@ -8,16 +8,22 @@ use crate::{SealFault, make_receipt, make_seal, receipt_text, seal_text};
 use codes_core::NoMemory;
 use posting_core::{EntryNo, Ledger};
 use std::alloc::Global;
+use std::thread::Threads;
 
 /// Returns the line of the seal of the first `upto` entries, or of all entries, with its line feed.
 ///
 /// Faults: `NotPosted` if fewer entries are posted, otherwise `NoMemory`.
-pub fn seal_line(alloc: Global, ledger: &Ledger, upto: Option<EntryNo>) -> Result<String, SealFault>
+pub fn seal_line(
+    rt: &(impl Threads + Sync),
+    alloc: Global,
+    ledger: &Ledger,
+    upto: Option<EntryNo>,
+) -> Result<String, SealFault>
     ensures line { IfOk result (λ text. string_bytes text ≡ seal_line ledger.now upto) }
     ensures not_posted { (result ≡ Err SealFault.NotPosted)
         ↔ (length ledger.now.posted < sealed_count ledger.now upto) }
 {
-    let seal = make_seal(alloc, ledger, upto)?;
+    let seal = make_seal(rt, alloc, ledger, upto)?;
     Ok(ended(seal_text(alloc, &seal)?)?)
 }
 

@@ -11,6 +11,7 @@ use crate::{LineFault, check_seal, read_seal};
 use codes_core::NoMemory;
 use posting_core::{EntryNo, Ledger};
 use std::alloc::Global;
+use std::thread::Threads;
 
 /// A line of a file, checked against the record.
 #[derive(Clone, Copy, Debug, PartialEq, Eq)]
@@ -36,12 +37,17 @@ pub struct CheckedSeals {
 
 /// Checks the seals in a file, one on each line. Empty lines, and blanks at the ends of a line,
 /// don't count. Takes time in proportion to the entries under each seal. Fails with `NoMemory`.
-pub fn check_seals(alloc: Global, ledger: &Ledger, bytes: &[u8]) -> Result<CheckedSeals, NoMemory>
+pub fn check_seals(
+    rt: &(impl Threads + Sync),
+    alloc: Global,
+    ledger: &Ledger,
+    bytes: &[u8],
+) -> Result<CheckedSeals, NoMemory>
     ensures { IfOk result (λ checked. Checks ledger.now bytes.now
         (string_bytes checked.text) checked.is_fine checked.help.now) }
 {
     let pieces = pieces_of(alloc, bytes)?;
-    let rows = check_lines(alloc, ledger, &pieces)?;
+    let rows = check_lines(rt, alloc, ledger, &pieces)?;
     let text = rows_text(alloc, &rows)?;
     Ok(CheckedSeals {
         text,
@@ -52,6 +58,7 @@ pub fn check_seals(alloc: Global, ledger: &Ledger, bytes: &[u8]) -> Result<Check
 
 /// Checks each line that is not empty. Fails with `NoMemory`.
 fn check_lines(
+    rt: &(impl Threads + Sync),
     alloc: Global,
     ledger: &Ledger,
     pieces: &[&[u8]],
@@ -61,13 +68,14 @@ fn check_lines(
 {
     let mut rows = Vec::new(alloc);
     for i in 0..pieces.len() {
-        add_row(alloc, ledger, i + 1, trimmed(pieces[i]), &mut rows)?;
+        add_row(rt, alloc, ledger, i + 1, trimmed(pieces[i]), &mut rows)?;
     }
     Ok(rows)
 }
 
 /// Checks a line, and adds the result, unless the line is empty. Fails with `NoMemory`.
 fn add_row(
+    rt: &(impl Threads + Sync),
     alloc: Global,
     ledger: &Ledger,
     row: usize,
@@ -77,7 +85,7 @@ fn add_row(
     ensures { OnOk result (AddsRow ledger.now row line.now rows.old.items rows.new.items) }
 {
     if !line.is_empty() {
-        let checked = check_line(alloc, ledger, row, line)?;
+        let checked = check_line(rt, alloc, ledger, row, line)?;
         rows.push(checked)?;
     }
     Ok(())
@@ -85,6 +93,7 @@ fn add_row(
 
 /// Checks a line. Fails with `NoMemory`.
 fn check_line(
+    rt: &(impl Threads + Sync),
     alloc: Global,
     ledger: &Ledger,
     row: usize,
@@ -95,7 +104,7 @@ fn check_line(
     match read_seal(line) {
         Ok(seal) => Ok(CheckedSeal::Seal {
             entries: seal.entries,
-            holds: check_seal(alloc, ledger, &seal)?,
+            holds: check_seal(rt, alloc, ledger, &seal)?,
         }),
         Err(fault) => Ok(CheckedSeal::Bad { row, fault }),
     }

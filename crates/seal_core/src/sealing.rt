@@ -4,12 +4,12 @@ ghost use Rattle.seal_core.specs.Trees.{tree_head};
 ghost use Rattle.seal_core.specs.Leaves.{leaves};
 ghost use Rattle.seal_core.specs.Seals.{Holds, sealed_count};
 
-use crate::HeadBuilder;
-use crate::leaves::entry_leaf;
 use crate::seal::Seal;
+use crate::workers::head_of_entries;
 use codes_core::NoMemory;
 use posting_core::{EntryNo, Ledger};
 use std::alloc::Global;
+use std::thread::Threads;
 use thiserror::Error;
 
 /// Why a record cannot be sealed.
@@ -35,10 +35,15 @@ impl From<NoMemory> for SealFault {
 }
 
 /// Returns the seal of the first `upto` entries, or of all entries. `upto` can be 0: the tree then
-/// has no leaves. Keeps the line of one entry at a time in memory.
+/// has no leaves. Workers share the entries, and each keeps one line at a time in memory.
 ///
 /// Faults: `NotPosted` if fewer entries are posted, otherwise `NoMemory`.
-pub fn make_seal(alloc: Global, ledger: &Ledger, upto: Option<EntryNo>) -> Result<Seal, SealFault>
+pub fn make_seal(
+    rt: &(impl Threads + Sync),
+    alloc: Global,
+    ledger: &Ledger,
+    upto: Option<EntryNo>,
+) -> Result<Seal, SealFault>
     ensures count { IfOk result (λ seal. seal.entries ≡ sealed_count ledger.now upto) }
     ensures holds { IfOk result (λ seal. Holds ledger.now seal) }
     ensures not_posted { (result ≡ Err SealFault.NotPosted)
@@ -48,31 +53,23 @@ pub fn make_seal(alloc: Global, ledger: &Ledger, upto: Option<EntryNo>) -> Resul
     if entries > ledger.entry_count() {
         return Err(SealFault::NotPosted);
     }
-    let head = head_of_entries(alloc, ledger, entries)?;
+    let head = head_of_entries(rt, alloc, ledger, entries)?;
     Ok(Seal { entries, head })
 }
 
 /// Returns whether a seal holds: the record has at least the entries that were sealed, and their
 /// lines have the seal's head. Fails with `NoMemory`, but only if there are so many entries.
-pub fn check_seal(alloc: Global, ledger: &Ledger, seal: &Seal) -> Result<bool, NoMemory>
+pub fn check_seal(
+    rt: &(impl Threads + Sync),
+    alloc: Global,
+    ledger: &Ledger,
+    seal: &Seal,
+) -> Result<bool, NoMemory>
     ensures { IfOk result (λ holds. IsTrue holds ↔ Holds ledger.now seal.now) }
 {
     if seal.entries > ledger.entry_count() {
         return Ok(false);
     }
-    let head = head_of_entries(alloc, ledger, seal.entries)?;
+    let head = head_of_entries(rt, alloc, ledger, seal.entries)?;
     Ok(head == seal.head)
-}
-
-/// The head of the tree of the first entries. Fails with `NoMemory`.
-fn head_of_entries(alloc: Global, ledger: &Ledger, entries: EntryNo) -> Result<[u8; 32], NoMemory>
-    requires { entries ≤ length ledger.now.posted }
-    ensures { IfOk result (λ head. head ≡ tree_head (leaves ledger.now entries)) }
-{
-    let mut builder = HeadBuilder::new();
-    for i in 0..entries as usize {
-        let leaf = entry_leaf(alloc, ledger, i)?;
-        builder.add(leaf.as_bytes());
-    }
-    Ok(builder.head())
 }

@@ -4,7 +4,7 @@ use Rattle.seal_core.proofs.Rows.{all_lines, lines_to, next_line, row_after, wit
 use Rattle.seal_core.proofs.seal_check.check_lines.Goals as goal
 
 pub loop-i-preserved : goal.loop-i-preserved
-loop-i-preserved c =
+loop-i-preserved g c =
     let pieces = c.args.pieces.now in
     let i = c.loop-i.i in
     let below : i < length pieces = omega (arith, c.loop-i-test.true, c.loop-i.auto.i-end) in
@@ -15,7 +15,7 @@ loop-i-preserved c =
     c.in_ok-add_row.ensures c.loop-i.invariant)
 
 pub returns : goal.returns
-returns c =
+returns g c =
     let pieces = c.args.pieces.now in
     let i = c.loop-i.i in
     subst (λ lines. AreChecked c.args.ledger.now 1 lines c.loop-i.rows.items)
