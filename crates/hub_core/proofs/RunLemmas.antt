@@ -17,11 +17,17 @@ use Rattle.std.proofs.lemmas.List.Sorted.{IsPermutation-trans, length_permutatio
 use Rattle.nest_core.specs.Museum.{Museum, no_museum}
 use Rattle.posting_core.specs.declared.entry.Entry.{Entry}
 use Rattle.posting_core.specs.Growing.{HasGrown}
+use Rattle.posting_core.specs.Book.{Book}
+use Rattle.posting_core.specs.Messages.{is_sign_off}
+use Rattle.station_core.specs.Progress.{AllMatch}
 use Rattle.register_store.specs.declared.plain.TheConstants.{NEW_DEPTH}
 use Rattle.register_store.specs.declared.store_fault.StoreFault.{StoreFault}
 use Rattle.register_store.specs.declared.store_fault.StoreFault.TheVariants as store
 use Rattle.register_store.specs.StoredRows.{Content, AreSame, HasList, HasRows}
 use Rattle.register_store.specs.Registers.{bound_to}
+use Rattle.register_store.specs.declared.no_store.NoStore.{NoStore}
+use Rattle.register_store.specs.Holdings.{Holding}
+use Rattle.register_store.specs.NoStore.{in_no_store}
 use Rattle.register_store.specs.Plain.{Kept, in_memory}
 use Rattle.register_store.specs.Holdings.{Comes}
 use Rattle.register_store.proofs.Kept.{same_itself}
@@ -34,10 +40,11 @@ use Rattle.hub_core.specs.declared.run_fault.RunFault.TheVariants.{NoMemory, Sto
 use Rattle.hub_core.specs.declared.run_fault.RunFault.TheVariants.{WriteFailed, Setup, HeadTooLong}
 use Rattle.hub_core.specs.Faults.{CountsReplay}
 use Rattle.hub_core.specs.Lines.{head, after_head}
-use Rattle.hub_core.specs.StandsFor.{State, StandsFor}
+use Rattle.hub_core.specs.Points.{point}
+use Rattle.hub_core.specs.StandsFor.{State, StandsFor, IsFresh}
 use Rattle.hub_core.specs.Openings.{IsOpenFault, CountsFault, Opened, IsNotOpened}
 use Rattle.hub_core.specs.Replayed.{Answered, AfterFault}
-use Rattle.hub_core.specs.WholeRun.{head_fault, setup_in, run_text, run_fault, IsFresh, TakesHead}
+use Rattle.hub_core.specs.WholeRun.{head_fault, setup_in, run_text, run_fault, TakesHead}
 use Rattle.hub_core.specs.WholeRun.{OpensHub, InLines}
 use Rattle.hub_core.proofs.StoreLemmas.{one_depth}
 use Rattle.hub_core.proofs.Written.{if_err}
@@ -119,7 +126,7 @@ only_nothing c same =
 
 -- a hub opened over a register without rows
 pub opened_fresh : (S : Museum) (register : Kept) (hub : State Kept) → register.content ≡ nothing
-    → Opened in_memory S register hub → IsFresh hub S
+    → Opened in_memory S register hub → IsFresh in_memory hub S
 opened_fresh S register hub new opened =
     let (c, was, step) = opened.comes.from tt hub.register.content
     (same_itself hub.register.content) in
@@ -138,6 +145,26 @@ opened_fresh S register hub new opened =
       stands = subst (λ (P : List Entry). StandsFor in_memory hub P []) empty opened.stands;
     }
 
+-- the same hub without its store
+pub fresh_without : {R : Type 0} (holding : R → Holding) (S : Museum) (hub : State R)
+    (new : State NoStore) → IsFresh holding hub S → new.sequences ≡ hub.sequences
+    → new.book ≡ hub.book → new.down ≡ hub.down → IsFresh in_no_store new S
+fresh_without holding S hub new fresh sequences book down =
+    record {
+      museum = ap (λ (B : Book). B.museum) book ∙ fresh.museum;
+      depth = ap (λ (B : Book). B.depth) book ∙ fresh.depth;
+      stands = record {
+        up = down ∙ fresh.stands.up;
+        list = subst (λ (B : Book). B.posted ≡ (point B.museum B.depth [] []).posted) (sym book)
+            fresh.stands.list;
+        series = subst (λ (B : Book). AllMatch is_sign_off (point B.museum B.depth [] []).taken
+            new.sequences) (sym book)
+            (subst (AllMatch is_sign_off (point hub.book.museum hub.book.depth [] []).taken)
+            (sym sequences) fresh.stands.series);
+        stored = record { some = λ quiet. absurd quiet; each = λ quiet. absurd quiet };
+      };
+    }
+
 -- a hub that could not be opened over it
 pub only_memory_lacks : (S : Museum) (register left : Kept) (fault : StoreFault)
     → S.growths ≡ [] → register.content ≡ nothing
@@ -149,9 +176,9 @@ only_memory_lacks S register left fault small new comes count =
     only_memory S fault small (subst (λ (k : Content). IsOpenFault S k fault) is cause.0) count
 
 -- opened with the head that was read
-pub opens_hub : (i i1 : Option (List ℕ)) (taken given : List ℕ) (setup : Museum) (hub : State Kept)
+pub opens_hub : (i i1 : Option (List ℕ)) (taken given : List ℕ) (setup : Museum) (hub : State NoStore)
     → given ≡ taken → TakesHead i i1 taken → setup_fault given ≡ None
-    → setup ≡ museum_of (rows_of given) → IsFresh hub setup → OpensHub i i1 hub
+    → setup ≡ museum_of (rows_of given) → IsFresh in_no_store hub setup → OpensHub i i1 hub
 opens_hub None i1 taken given setup hub at takes none is fresh = tt
 opens_hub (Some bytes) i1 taken given setup hub at (is_head, short, left) none is fresh =
     let all : given ≡ head bytes = at ∙ is_head in
@@ -163,36 +190,36 @@ opens_hub (Some bytes) i1 taken given setup hub at (is_head, short, left) none i
       ap (λ t. if t then Some HeadTooLong else option_map Setup (setup_fault (head bytes))) within
           ∙ ap (option_map Setup) whole,
       left,
-      subst (λ (S : Museum). IsFresh hub S)
+      subst (λ (S : Museum). IsFresh in_no_store hub S)
           (is ∙ ap (λ (l : List ℕ). museum_of (rows_of l)) all) fresh,
     )
 
 -- the lines after the head are all answered
-pub lines_answered : (i i1 i2 o o' : Option (List ℕ)) (hub new : State Kept) → OpensHub i i1 hub
-    → ((O : List Entry) (A : List Arrival) → StandsFor in_memory hub O A
-    → Answered hub.book.museum hub.book.depth O A i1 i2 o o' in_memory new true)
+pub lines_answered : (i i1 i2 o o' : Option (List ℕ)) (hub new : State NoStore) → OpensHub i i1 hub
+    → ((O : List Entry) (A : List Arrival) → StandsFor in_no_store hub O A
+    → Answered hub.book.museum hub.book.depth O A i1 i2 o o' in_no_store new true)
     → IfSome i (λ bytes. (head_fault (head bytes) ≡ None) × IsAtEnd i2
     × Appends o o' (run_text bytes))
 lines_answered None i1 i2 o o' hub new opens answered = tt
 lines_answered (Some bytes) i1 i2 o o' hub new opens answered =
     let fresh = opens.2 in
     let all : Answered (setup_in bytes) NEW_DEPTH [] [] (Some (after_head bytes)) i2 o o'
-    in_memory new true =
-    subst (λ (S : Museum). Answered S NEW_DEPTH [] [] (Some (after_head bytes)) i2 o o' in_memory
+    in_no_store new true =
+    subst (λ (S : Museum). Answered S NEW_DEPTH [] [] (Some (after_head bytes)) i2 o o' in_no_store
     new true) fresh.museum
     (subst (λ depth. Answered hub.book.museum depth [] [] (Some (after_head bytes)) i2 o o'
-    in_memory new true) fresh.depth
+    in_no_store new true) fresh.depth
     (subst (λ (left : Option (List ℕ)). Answered hub.book.museum hub.book.depth [] [] left i2 o o'
-    in_memory new true) opens.1 (answered [] [] fresh.stands))) in
+    in_no_store new true) opens.1 (answered [] [] fresh.stands))) in
     let whole = whole_input (setup_in bytes) NEW_DEPTH [] [] (Some (after_head bytes)) i2 o o'
-    in_memory new all in
+    in_no_store new all in
     (opens.0, whole.0, whole.1)
 
 -- a fault in the lines
-pub lines_fault : (i i1 i2 o o' : Option (List ℕ)) (hub new : State Kept) (fault : ReplayFault)
+pub lines_fault : (i i1 i2 o o' : Option (List ℕ)) (hub new : State NoStore) (fault : ReplayFault)
     → OpensHub i i1 hub
-    → ((O : List Entry) (A : List Arrival) → StandsFor in_memory hub O A
-    → AfterFault hub.book.museum hub.book.depth O A i1 i2 o o' in_memory new fault)
+    → ((O : List Entry) (A : List Arrival) → StandsFor in_no_store hub O A
+    → AfterFault hub.book.museum hub.book.depth O A i1 i2 o o' in_no_store new fault)
     → InLines i i2 o o' fault
 lines_fault None i1 i2 o o' hub new fault opens after = tt
 lines_fault (Some bytes) i1 i2 o o' hub new fault opens after =
@@ -201,11 +228,11 @@ lines_fault (Some bytes) i1 i2 o o' hub new fault opens after =
       (
         new,
         subst (λ (S : Museum). AfterFault S NEW_DEPTH [] [] (Some (after_head bytes)) i2 o o'
-            in_memory new fault) fresh.museum
+            in_no_store new fault) fresh.museum
             (subst (λ depth. AfterFault hub.book.museum depth [] [] (Some (after_head bytes)) i2 o
-            o' in_memory new fault) fresh.depth
+            o' in_no_store new fault) fresh.depth
             (subst (λ (left : Option (List ℕ)). AfterFault hub.book.museum hub.book.depth [] [] left
-            i2 o o' in_memory new fault) opens.1 (after [] [] fresh.stands))),
+            i2 o o' in_no_store new fault) opens.1 (after [] [] fresh.stands))),
       ),
     )
 

@@ -1,6 +1,6 @@
 -- Defines a hub and the arrivals that it stands for, which the contracts of its calls are about.
 use Rattle.std.specs.Prelude.{ℕ, ◌≡◌, ◌-◌, ◌<◌, ◌≤◌, ◌⊎◌, ◌++◌, ◌∷◌, Bool, true, false, List}
-use Rattle.std.specs.Prelude.{length, fold, take}
+use Rattle.std.specs.Prelude.{[], length, fold, take}
 use Rattle.nest_core.specs.Museum.{Museum}
 use Rattle.posting_core.specs.declared.message.Message.{Message}
 use Rattle.posting_core.specs.declared.entry.Entry.{Entry}
@@ -11,6 +11,7 @@ use Rattle.station_core.specs.Series.{Series, series_at}
 use Rattle.station_core.specs.Runs.{Arrived, ready, due}
 use Rattle.station_core.specs.Progress.{AllMatch}
 use Rattle.register_store.specs.StoredRows.{IsStoreOf}
+use Rattle.register_store.specs.declared.plain.TheConstants.{NEW_DEPTH}
 use Rattle.register_store.specs.Holdings.{Holding, Has}
 use Rattle.hub_core.specs.declared.hub.answer.Arrival.{Arrival}
 use Rattle.hub_core.specs.Points.{point, post, due_with}
@@ -48,6 +49,13 @@ pub record StandsFor {R : Type 0} (holding : R → Holding) (hub : State R) (O :
   pub list : hub.book.posted ≡ (point hub.book.museum hub.book.depth O A).posted
   pub series : AllMatch is_sign_off (point hub.book.museum hub.book.depth O A).taken hub.sequences
   pub stored : HasStore (holding hub.register) hub.book
+
+-- The hub has this setup, and nothing posted.
+pub record IsFresh {R : Type 0} (holding : R → Holding) (hub : State R) (S : Museum)
+    : Type 0 where
+  pub museum : hub.book.museum ≡ S
+  pub depth : hub.book.depth ≡ NEW_DEPTH
+  pub stands : StandsFor holding hub [] []
 
 -- A fault stopped posting at message `next`. Those before it are posted, and the store has that
 -- list, with or without `next`.

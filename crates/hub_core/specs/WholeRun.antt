@@ -1,6 +1,6 @@
--- Defines a run: a head with the setup, an empty line, and the lines to replay over a register in
--- memory. `i` and `i'` are the bytes that the reader has left before and after, `o` and `o'` those
--- that the writer holds.
+-- Defines a run: a head with the setup, an empty line, and the lines to replay without a store. `i`
+-- and `i'` are the bytes that the reader has left before and after, `o` and `o'` those that the
+-- writer holds.
 use Rattle.std.specs.Prelude.{ℕ, ◌≡◌, ◌≤◌, ◌<◌, ◌⊎◌, nat_lt, Bool, false, List, [], length, Option}
 use Rattle.std.specs.Prelude.{Some, None, IfSome, if◌then◌else◌}
 use Rattle.std.specs.Option.{option_map}
@@ -11,7 +11,9 @@ use Rattle.nest_core.specs.SetupRows.{rows_of, museum_of, setup_fault}
 use Rattle.nest_core.specs.declared.setup_fault.SetupFault.{SetupFault}
 use Rattle.nest_core.specs.declared.setup_fault.SetupFault.TheVariants as setup
 use Rattle.register_store.specs.declared.plain.TheConstants.{NEW_DEPTH}
-use Rattle.register_store.specs.Plain.{Kept, in_memory}
+use Rattle.register_store.specs.declared.no_store.NoStore.{NoStore}
+use Rattle.register_store.specs.Holdings.{Holding}
+use Rattle.register_store.specs.NoStore.{in_no_store}
 use Rattle.hub_core.specs.declared.replay_fault.ReplayFault.{ReplayFault}
 use Rattle.hub_core.specs.declared.replay_fault.ReplayFault.TheVariants as replay
 use Rattle.hub_core.specs.declared.stream.head.TheConstants.{LONGEST_HEAD}
@@ -21,7 +23,7 @@ use Rattle.hub_core.specs.declared.run_fault.RunFault.TheVariants.{WriteFailed, 
 use Rattle.hub_core.specs.Reading.{HasNoFeed}
 use Rattle.hub_core.specs.Lines.{pieces, ended, is_blank, head, after_head}
 use Rattle.hub_core.specs.LineText.{text}
-use Rattle.hub_core.specs.StandsFor.{State, StandsFor}
+use Rattle.hub_core.specs.StandsFor.{State, IsFresh}
 use Rattle.hub_core.specs.Replayed.{AfterFault}
 
 -- The first fault of a head: HeadTooLong, then that of its setup.
@@ -102,26 +104,20 @@ run_fault replay.Store = Store
 run_fault replay.ReadFailed = ReadFailed
 run_fault replay.WriteFailed = WriteFailed
 
--- The hub of a run has this setup, and nothing posted.
-pub record IsFresh (hub : State Kept) (S : Museum) : Type 0 where
-  pub museum : hub.book.museum ≡ S
-  pub depth : hub.book.depth ≡ NEW_DEPTH
-  pub stands : StandsFor in_memory hub [] []
-
 -- The head was read and has no fault, and the hub has its setup.
-abbrev pub OpensHub : Option (List ℕ) → Option (List ℕ) → State Kept → Type 0
+abbrev pub OpensHub : Option (List ℕ) → Option (List ℕ) → State NoStore → Type 0
 OpensHub i i' hub =
     IfSome i (λ bytes. (head_fault (head bytes) ≡ None) × (i' ≡ Some (after_head bytes))
-    × IsFresh hub (setup_in bytes))
+    × IsFresh in_no_store hub (setup_in bytes))
 
 -- The head has no fault, and a fault came in the lines. The end is that of a replay over the run's
 -- hub.
 abbrev pub InLines : Option (List ℕ) → Option (List ℕ) → Option (List ℕ) → Option (List ℕ)
     → ReplayFault → Type 0
 InLines i i' o o' fault = IfSome i (λ bytes. (head_fault (head bytes) ≡ None)
-    × ((hub : State Kept)
+    × ((hub : State NoStore)
     × AfterFault (setup_in bytes) NEW_DEPTH [] []
-    (Some (after_head bytes)) i' o o' in_memory hub fault))
+    (Some (after_head bytes)) i' o o' in_no_store hub fault))
 
 -- The end of a run after a fault: before the lines, with nothing written, or in the lines.
 abbrev pub AfterRun : Option (List ℕ) → Option (List ℕ) → Option (List ℕ) → Option (List ℕ)

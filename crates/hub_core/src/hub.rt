@@ -18,6 +18,7 @@ pub(crate) mod answer;
 mod opening;
 mod posting;
 mod reposting;
+mod session;
 
 use crate::hub::opening::prepare;
 use crate::hub::posting::post_due;

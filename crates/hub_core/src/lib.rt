@@ -3,8 +3,8 @@
 //! [`Hub`] brings together the hold-back of `station_core`, the ledger of `posting_core` and a
 //! register of `register_store`. [`Hub::open`] checks the register's entries, [`Hub::arrive`] takes
 //! a message, and [`Hub::ask`] returns where a thing is. [`replay`] reads lines and writes the
-//! replies, and [`run`] does so with a setup at the head of its input and a register in memory. A
-//! [`Watch`], such as [`Tally`], sees the outcomes of the lines.
+//! replies, and [`run`] does so with a setup at the head of its input and without a store, over
+//! [`Hub::session`]. A [`Watch`], such as [`Tally`], sees the outcomes of the lines.
 //!
 //! The contracts promise:
 //!

@@ -19,9 +19,7 @@ use Rattle.nest_core.specs.declared.growth.Growth.{Growth}
 use Rattle.question_words.specs.Desk.{DeskAsks}
 use Rattle.register_sql.specs.Migrating.{Migrates}
 use Rattle.register_sql.specs.Runs.{IsCopied, IsFoundIn}
-use Rattle.register_sql.specs.Stores.{no_rows}
 use Rattle.register_store.specs.Holdings.{Holding, Comes}
-use Rattle.register_store.specs.Plain as plain
 use Rattle.register_store.specs.StoredRows.{AreSame}
 use Rattle.sqlite.specs.Recovery.{Image}
 use Rattle.sqlite.specs.WalReads.{AreClean}
@@ -87,14 +85,6 @@ pub record IsDoneAndKept {R D : Type 0} (holding : R → Holding) (g : Ghosts D)
   pub after : R
   pub done : Did DeskAsks holding S before after work had_seen has_seen i i' o o' l l'
   pub kept : IsKeptAlone g (holding after)
-
--- The work was done on a record in memory that was empty at first.
-pub record IsDoneInMemory (S : Museum) (work : Work) (had_seen has_seen : List Outcome → Type 0)
-    (i i' o o' l l' : Option (List ℕ)) : Type 0 where
-  pub before : plain.Kept
-  pub after : plain.Kept
-  pub empty : before.content ≡ no_rows
-  pub done : Did DeskAsks plain.in_memory S before after work had_seen has_seen i i' o o' l l'
 
 -- The register's record was migrated, and kept.
 pub record IsMigratedAndKept {R D : Type 0} (holding : R → Holding) (g : Ghosts D) (S : Museum)

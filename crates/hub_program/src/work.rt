@@ -1,11 +1,12 @@
 //! Has the work of a command done on the record, and closes the store.
 ghost use Rattle.std.specs.Prelude.{◌≡◌, length, IfOk, OnOk, OnErr, MatchOption, option_map};
 ghost use Rattle.desk_core.specs.Logs.{log_of};
-ghost use Rattle.hub_program.specs.Places.{path_of, IsDoneAndKept, IsDoneInMemory, IsKeptAlone};
+ghost use Rattle.hub_program.specs.Places.{path_of, IsDoneAndKept, IsKeptAlone};
 ghost use Rattle.hub_program.specs.Places.{grown_by};
 ghost use Rattle.register_sql.specs.Stores.{in_store};
 ghost use Rattle.sqlite.specs.Files.{file_state};
-ghost use Rattle.work_core.specs.Works.{FitsStations};
+ghost use Rattle.work_core.specs.Works.{FitsStations, DidAlone};
+ghost use Rattle.question_words.specs.Desk.{DeskAsks};
 
 use crate::fault::CommandFault;
 use crate::request::DeskQuestions;
@@ -13,19 +14,18 @@ use crate::store::{ClosedStore, OpenStore, other_setup};
 use codes_core::{add_on_one_line, write_on_one_line};
 use hub_core::Watch;
 use nest_core::Setup;
-use register_store::PlainRegister;
 use sqlite_disk::Disk;
 use std::alloc::AllocError;
 use std::io;
 use std::io::{BufRead, Write};
 use std::sync::Wait;
 use std::thread::Threads;
-use work_core::{Work, WorkFault, do_work};
+use work_core::{Work, WorkFault, do_session_work, do_work};
 
 /// Does the work on the record in the open store, and closes the store. The record's setup is this
-/// one, with the growths of the store. Without a store the record is empty, and in memory. Notes
-/// for the user are appended to `notes`; print them only if there is no fault. A desk appends the
-/// messages of its station to the log, if there is one.
+/// one, with the growths of the store. Without a store the record is empty at first, and not kept.
+/// Notes for the user are appended to `notes`; print them only if there is no fault. A desk appends
+/// the messages of its station to the log, if there is one.
 ///
 /// Faults, in this order: OtherSetup, if the growths of the store don't fit the setup; those of the
 /// work, as of [`do_work`]; those of closing the store.
@@ -53,7 +53,7 @@ pub fn over_store<
     ensures named { IfOk result (λ kept.
         path_of kept ≡ option_map (λ s. s.path.now) store.entry) }
     ensures done { OnOk result (MatchOption store.entry
-        (IsDoneInMemory setup work.entry (V.has_seen watch.old) (V.has_seen watch.new)
+        (DidAlone DeskAsks setup work.entry (V.has_seen watch.old) (V.has_seen watch.new)
         (R.remaining input.old) (R.remaining input.new)
         (W.contents output.old) (W.contents output.new)
         (log_of L.contents log.old) (log_of L.contents log.new))
@@ -66,7 +66,7 @@ pub fn over_store<
 {
     match store {
         None => {
-            in_memory(rt, threads, setup, work, watch, input, output, log, notes)?;
+            without_store(rt, threads, setup, work, watch, input, output, log, notes)?;
             Ok(None)
         }
         Some(store) => {
@@ -78,7 +78,7 @@ pub fn over_store<
     }
 }
 
-fn in_memory<
+fn without_store<
     T: Threads + Wait + Sync + Copy + Send + 'static,
     V: Watch,
     R: BufRead,
@@ -96,20 +96,18 @@ fn in_memory<
     notes: &mut String,
 ) -> Result<(), CommandFault>
     requires { FitsStations (length setup.stations) work }
-    ensures { OnOk result (IsDoneInMemory setup work.entry
+    ensures { OnOk result (DidAlone DeskAsks setup work.entry
         (V.has_seen watch.old) (V.has_seen watch.new)
         (R.remaining input.old) (R.remaining input.new)
         (W.contents output.old) (W.contents output.new)
         (log_of L.contents log.old) (log_of L.contents log.new)) }
 {
     let alloc = rt.alloc();
-    let register = PlainRegister::new(alloc);
-    ended_of(do_work(
+    with_command_fault(do_session_work(
         threads,
         alloc,
         &DeskQuestions,
         setup,
-        register,
         work,
         watch,
         input,
@@ -117,15 +115,6 @@ fn in_memory<
         log,
         notes,
     ))
-}
-
-/// Drops the register, and returns the end of the work with the command's fault.
-fn ended_of<R: Drop>(done: (R, Result<(), WorkFault>)) -> Result<(), CommandFault>
-    ensures { OnErr done.1 (OnOk result ⊥) }
-{
-    let (register, ended) = done;
-    drop(register);
-    with_command_fault(ended)
 }
 
 /// The end of the work with the command's fault.

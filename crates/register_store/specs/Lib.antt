@@ -6,4 +6,5 @@ pub mod StoredRows
 pub mod Registers
 pub mod Holdings
 pub mod Plain
+pub mod NoStore
 pub mod SentLines

@@ -6,7 +6,8 @@
 //! station sends: its name, the message's number and the message. A replay that reads the line
 //! takes this message from this station under this number. A [`Register`] keeps a posted list: it
 //! binds a setup, posts entries and lists them, or fails with a [`StoreFault`]. [`PlainRegister`]
-//! keeps its rows in memory; `register_sql` keeps them in an SQLite database.
+//! keeps its rows in memory, `register_sql` keeps them in an SQLite database, and [`NoStore`] keeps
+//! none.
 //!
 //! Contracts speak of every content that a store may have after a call, if the store is quiet:
 //! nobody else writes to it, and it returns the rows that were written. An entry is stored with all
@@ -36,6 +37,7 @@ mod loan_writer;
 mod member;
 mod message_reader;
 mod message_writer;
+mod no_store;
 mod object_list;
 mod plain;
 mod register;
@@ -52,6 +54,7 @@ pub use line_writer::sent_line;
 pub use loan_rows::{LineKey, term_of};
 pub use message_reader::{message_in, message_of, read_message};
 pub use message_writer::{message_text, write_message};
+pub use no_store::NoStore;
 pub use plain::{NEW_DEPTH, PlainRegister};
 pub use register::Register;
 pub use rows::{KeptPosting, entry_of, row_of};

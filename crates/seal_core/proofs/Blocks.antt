@@ -42,7 +42,7 @@ parted f a n k le =
     ∙ (ap (map f) (sym (run-append a k (n - k)))
     ∙ map-append f (range_with_len a k) (range_with_len (a + k) (n - k)))
 
--- The head of a tree of two parts, the first of which is full.
+-- The head of a tree of two parts. The first part is full.
 tree_head-parts : (d : ℕ) (leaf : ℕ → List ℕ) (a n k : ℕ) → k ≡ 2 ^ d → k < n → n ≤ 2 * k
     → tree_head (map leaf (range_with_len a n))
     ≡ node_hash (tree_head (map leaf (range_with_len a k)))

@@ -6,12 +6,14 @@ use Rattle.hub_core.specs.declared.hub.answer.Arrival.{Arrival}
 use Rattle.hub_core.specs.declared.replay_fault.ReplayFault.{ReplayFault}
 use Rattle.hub_core.specs.Openings.{Opened, IsNotOpened}
 use Rattle.hub_core.specs.Replayed as replayed
-use Rattle.hub_core.specs.StandsFor.{State, StandsFor}
+use Rattle.hub_core.specs.StandsFor.{State, StandsFor, IsFresh}
 use Rattle.nest_core.specs.Museum.{Museum}
 use Rattle.posting_core.specs.Past.{as_of}
 use Rattle.posting_core.specs.declared.entry.Entry.{Entry}
 use Rattle.posting_core.specs.Lawful.{is_signed_off}
 use Rattle.register_store.specs.Holdings.{Holding, Comes}
+use Rattle.register_store.specs.NoStore.{in_no_store}
+use Rattle.register_store.specs.declared.no_store.NoStore.{NoStore}
 use Rattle.register_store.specs.declared.store_fault.StoreFault.{StoreFault}
 use Rattle.reports.specs.declared.fault.PrintFault.{PrintFault}
 use Rattle.reports.specs.Forms as forms
@@ -144,3 +146,24 @@ abbrev pub Stopped : {R : Type 0} → Asks → (R → Holding) → Museum → R 
 Stopped asks holding S before register work i i' o o' l l' fault =
     NotOpened holding S before register i i' o o' l l' fault
     ⊎ OpenedAndStopped asks holding S before register work i i' o o' l l' fault
+
+-- No hub was opened for a session without a store. Nothing was read, written or logged.
+pub record IsNotBegun (i i' o o' l l' : Option (List ℕ)) (fault : WorkFault) : Type 0 where
+  pub cause : StoreFault
+  pub is : fault ≡ of_store cause
+  pub unread : i' ≡ i
+  pub unwritten : o' ≡ o
+  pub unlogged : l' ≡ l
+
+-- A hub without a store, and with nothing posted, was opened, and its work stopped.
+pub record BegunAndStopped (asks : Asks) (S : Museum) (work : Work)
+    (i i' o o' l l' : Option (List ℕ)) (fault : WorkFault) : Type 0 where
+  pub hub : State NoStore
+  pub fresh : IsFresh in_no_store hub S
+  pub after : NoStore
+  pub stopped : Stops asks in_no_store hub after work i i' o o' l l' fault
+
+abbrev pub StoppedAlone : Asks → Museum → Work → Option (List ℕ) → Option (List ℕ)
+    → Option (List ℕ) → Option (List ℕ) → Option (List ℕ) → Option (List ℕ) → WorkFault → Type 0
+StoppedAlone asks S work i i' o o' l l' fault =
+    IsNotBegun i i' o o' l l' fault ⊎ BegunAndStopped asks S work i i' o o' l l' fault

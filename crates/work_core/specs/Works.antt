@@ -8,12 +8,14 @@ use Rattle.hub_core.specs.declared.hub.answer.Arrival.{Arrival}
 use Rattle.hub_core.specs.declared.outcome.Outcome.{Outcome}
 use Rattle.hub_core.specs.Openings.{Opened}
 use Rattle.hub_core.specs.Outcomes.{Watched}
-use Rattle.hub_core.specs.StandsFor.{State, StandsFor}
+use Rattle.hub_core.specs.StandsFor.{State, StandsFor, IsFresh}
 use Rattle.nest_core.specs.Museum.{Museum}
 use Rattle.posting_core.specs.Past.{as_of}
 use Rattle.posting_core.specs.declared.entry.Entry.{Entry}
 use Rattle.posting_core.specs.Lawful.{is_signed_off}
 use Rattle.register_store.specs.Holdings.{Holding}
+use Rattle.register_store.specs.NoStore.{in_no_store}
+use Rattle.register_store.specs.declared.no_store.NoStore.{NoStore}
 use Rattle.reports.specs.Reports.{report_text}
 use Rattle.serve_core.specs.declared.item.Item.{Item}
 use Rattle.serve_core.specs.declared.item.LogLine.{LogLine}
@@ -98,3 +100,11 @@ pub record Did {R : Type 0} (asks : Asks) (holding : R → Holding) (S : Museum)
   pub hub : State R
   pub opened : Opened holding S before hub
   pub done : Does asks holding hub register work had_seen has_seen i i' o o' l l'
+
+-- A hub without a store, and with nothing posted, did the work.
+pub record DidAlone (asks : Asks) (S : Museum) (work : Work)
+    (had_seen has_seen : List Outcome → Type 0) (i i' o o' l l' : Option (List ℕ)) : Type 0 where
+  pub hub : State NoStore
+  pub fresh : IsFresh in_no_store hub S
+  pub after : NoStore
+  pub done : Does asks in_no_store hub after work had_seen has_seen i i' o o' l l'

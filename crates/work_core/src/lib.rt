@@ -1,8 +1,9 @@
 //! The work of a command on the record in a store: answer lines, serve all stations, work at a
 //! desk, or print a report.
 //!
-//! [`do_work`] opens a hub over a register, does the [`Work`], and hands the register back. A
-//! [`WorkFault`] says why it stopped. Notes for the user are collected in a text.
+//! [`do_work`] opens a hub over a register, does the [`Work`], and hands the register back;
+//! [`do_session_work`] does it without a store. A [`WorkFault`] says why it stopped. Notes for the
+//! user are collected in a text.
 //!
 //! The contract of [`do_work`] promises, for work that ends without a fault (`did`):
 //!
@@ -50,4 +51,4 @@ mod work;
 pub use copied_bytes::{PourFault, pour};
 pub use copied_record::opens_to;
 pub use fault::WorkFault;
-pub use work::{Work, do_work};
+pub use work::{Work, do_session_work, do_work};

@@ -1,8 +1,8 @@
 //! Opens a hub over a register, and does the work of a command with it.
 ghost use Rattle.std.specs.Prelude.{◌≡◌, false, length, OnOk, IfErr};
-ghost use Rattle.work_core.specs.Stops.{Stops, Stopped};
+ghost use Rattle.work_core.specs.Stops.{Stops, Stopped, StoppedAlone};
 ghost use Rattle.desk_core.specs.Logs.{log_of};
-ghost use Rattle.work_core.specs.Works.{FitsStations, HasNoLog, Does, Did};
+ghost use Rattle.work_core.specs.Works.{FitsStations, HasNoLog, Does, Did, DidAlone};
 
 use crate::WorkFault;
 use crate::desk::worked;
@@ -97,6 +97,50 @@ pub fn do_work<
             threads, alloc, questions, hub, work, watch, input, output, log, notes,
         ),
         Err(failed) => (failed.register, Err(WorkFault::from(failed.fault))),
+    }
+}
+
+/// Does the work as [`do_work`] does, but without a store: with a hub that has this setup and
+/// nothing posted, and that stores nothing. Faults: those of [`Hub::session`]; those of the work.
+pub fn do_session_work<
+    T: Threads + Wait + Sync + Copy + Send + 'static,
+    Q: Questions,
+    V: Watch,
+    R: BufRead,
+    W: Write,
+    L: Write,
+>(
+    threads: &T,
+    alloc: Global,
+    questions: &Q,
+    setup: Setup,
+    work: Work<'_>,
+    watch: &mut V,
+    input: &mut R,
+    output: &mut W,
+    log: &mut Option<L>,
+    notes: &mut String,
+) -> Result<(), WorkFault>
+    requires { FitsStations (length setup.stations) work }
+    ensures did { OnOk result (DidAlone Q.asks setup work.entry
+        (V.has_seen watch.old) (V.has_seen watch.new)
+        (R.remaining input.old) (R.remaining input.new)
+        (W.contents output.old) (W.contents output.new)
+        (log_of L.contents log.old) (log_of L.contents log.new)) }
+    ensures stopped { IfErr result (StoppedAlone Q.asks setup work.entry
+        (R.remaining input.old) (R.remaining input.new)
+        (W.contents output.old) (W.contents output.new)
+        (log_of L.contents log.old) (log_of L.contents log.new)) }
+    ensures unlogged { HasNoLog work.entry → log.new ≡ log.old }
+{
+    match Hub::session(alloc, setup) {
+        Ok(hub) => {
+            let (_, ended) = done(
+                threads, alloc, questions, hub, work, watch, input, output, log, notes,
+            );
+            ended
+        }
+        Err(fault) => Err(WorkFault::from(fault)),
     }
 }
 

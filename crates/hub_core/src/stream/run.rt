@@ -2,7 +2,7 @@
 ghost use Rattle.std.specs.Prelude.{◌≡◌, ◌≢◌, ◌≤◌, ◌<◌, ◌+◌, [], false, OnOk, IfOk, IfErr, IfSome};
 ghost use Rattle.std.specs.Io.KnownBytes.{Appends, IsAtEnd};
 ghost use Rattle.hub_core.specs.Lines.{head};
-ghost use Rattle.hub_core.specs.WholeRun.{head_fault, run_text, AfterRun, OpensHub, IsFresh};
+ghost use Rattle.hub_core.specs.WholeRun.{head_fault, run_text, AfterRun, OpensHub};
 ghost use Rattle.hub_core.specs.WholeRun.{BeforeLines};
 
 use crate::line::bytes::Reads;
@@ -11,11 +11,11 @@ use crate::stream::head::read_head;
 use crate::stream::lines::replay_from;
 use crate::{Hub, RunFault};
 use nest_core::Setup;
-use register_store::{PlainRegister, StoreFault};
+use register_store::NoStore;
 use std::alloc::Global;
 use std::io::{BufRead, Write};
 
-/// Reads the setup, and replays the lines after it over a new hub with a register in memory. The
+/// Reads the setup, and replays the lines after it over a new hub without a store. The
 /// setup is all bytes before the first empty line, or all bytes if there is none.
 ///
 /// Faults of the head, after which nothing is written: ReadFailed; HeadTooLong, as soon as the
@@ -35,7 +35,7 @@ pub fn run<R: BufRead, W: Write>(
     ensures faults { IfErr result
         (AfterRun (R.remaining input.old) (R.remaining input.new) (W.contents output.old)
         (W.contents output.new)) }
-    // The register is in memory.
+    // There is no store.
     ensures never_store { IfErr result (λ fault. fault ≢ RunFault.Store) }
 {
     run_counted(alloc, input, output, &mut Reads::new())
@@ -68,7 +68,7 @@ fn opened<R: BufRead>(
     alloc: Global,
     input: &mut R,
     reads: &mut Reads,
-) -> Result<Hub<PlainRegister>, RunFault>
+) -> Result<Hub<NoStore>, RunFault>
     ensures hub { IfOk result (OpensHub (R.remaining input.old) (R.remaining input.new)) }
     ensures up { IfOk result (λ hub. hub.down ≡ false) }
     ensures fault { IfErr result (BeforeLines (R.remaining input.old) (R.remaining input.new)) }
@@ -76,20 +76,8 @@ fn opened<R: BufRead>(
 {
     let head = read_head(alloc, input, reads)?;
     let setup = Setup::read(alloc, head.as_slice())?;
-    match new_hub(alloc, setup) {
+    match Hub::session(alloc, setup) {
         Ok(hub) => Ok(hub),
         Err(_) => Err(RunFault::NoMemory),
-    }
-}
-
-/// Opens a hub with this setup, which never grew, and nothing posted. Fault: NoMemory.
-fn new_hub(alloc: Global, setup: Setup) -> Result<Hub<PlainRegister>, StoreFault>
-    requires { setup.growths ≡ [] }
-    ensures fresh { IfOk result (λ hub. IsFresh hub setup) }
-    ensures fault { IfErr result (λ fault. fault ≡ StoreFault.NoMemory) }
-{
-    match Hub::open(alloc, setup, PlainRegister::new(alloc)) {
-        Ok(hub) => Ok(hub),
-        Err(failed) => Err(failed.fault),
     }
 }

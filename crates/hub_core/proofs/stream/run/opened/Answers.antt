@@ -1,10 +1,5 @@
-use Rattle.nest_core.specs.SetupRows.{rows_of}
-use Rattle.hub_core.proofs.RunLemmas.{opens_hub, read_small}
+use Rattle.hub_core.proofs.RunLemmas.{opens_hub}
 use Rattle.hub_core.proofs.stream.run.opened.Goals as goal
-
-pub new_hub-requires : goal.new_hub-requires
-new_hub-requires g c =
-    read_small c.in_ok-setup.setup (rows_of c.as_slice.result.now) c.in_ok-setup.ensures.exact.1
 
 pub returns-in-Ok-clause-hub : goal.returns-in-Ok-clause-hub
 returns-in-Ok-clause-hub g c =
