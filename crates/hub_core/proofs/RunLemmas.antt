@@ -2,19 +2,16 @@
 use Rattle.std.proofs.Common.{◌≡◌, ◌≢◌, ◌≤◌, ◌∙◌, ℕ, if◌then◌else◌, false, inl, inr, ◌∷◌, true}
 use Rattle.std.proofs.Common.{true≢false, List, [], length, length-append, Option, None, Some}
 use Rattle.std.proofs.Common.{Result, Err, IfErr, IsErrAnd, refl, ap, sym, subst, arith}
-use Rattle.std.specs.Prelude.{IfSome, nat_lt, fold}
-use Rattle.std.specs.Option.{option_map, option_map_or}
+use Rattle.std.specs.Prelude.{IfSome, nat_lt}
+use Rattle.std.specs.Option.{option_map}
 use Rattle.std.proofs.lemmas.Bool.Decides.{nat_tests}
-use Rattle.nest_core.specs.declared.growth.Growth.{Growth}
-use Rattle.nest_core.specs.SetupRows.{Fields, rows_of, museum_of, setup_fault, with_row}
-use Rattle.nest_core.specs.SetupRows.{with_listed}
-use Rattle.nest_core.specs.SetupRows.{item_of}
+use Rattle.nest_core.specs.SetupRows.{rows_of, museum_of, setup_fault}
 use Rattle.hub_core.specs.declared.stream.head.TheConstants.{LONGEST_HEAD}
 use Rattle.std.specs.Io.KnownBytes.{Appends, IsAtEnd}
 use Rattle.std.proofs.lemmas.List.{nil_from_length}
 use Rattle.std.proofs.lemmas.List.Sorted.{IsPermutation-refl, IsPermutation-sym}
 use Rattle.std.proofs.lemmas.List.Sorted.{IsPermutation-trans, length_permutation}
-use Rattle.nest_core.specs.Museum.{Museum, no_museum}
+use Rattle.nest_core.specs.Museum.{Museum}
 use Rattle.posting_core.specs.declared.entry.Entry.{Entry}
 use Rattle.posting_core.specs.Growing.{HasGrown}
 use Rattle.posting_core.specs.Book.{Book}
@@ -42,7 +39,7 @@ use Rattle.hub_core.specs.Faults.{CountsReplay}
 use Rattle.hub_core.specs.Lines.{head, after_head}
 use Rattle.hub_core.specs.Points.{point}
 use Rattle.hub_core.specs.StandsFor.{State, StandsFor, IsFresh}
-use Rattle.hub_core.specs.Openings.{IsOpenFault, CountsFault, Opened, IsNotOpened}
+use Rattle.hub_core.specs.Openings.{IsOpenFault, IsSessionFault, CountsFault, Opened, IsNotOpened}
 use Rattle.hub_core.specs.Replayed.{Answered, AfterFault}
 use Rattle.hub_core.specs.WholeRun.{head_fault, setup_in, run_text, run_fault, TakesHead}
 use Rattle.hub_core.specs.WholeRun.{OpensHub, InLines}
@@ -62,30 +59,27 @@ no_entries P c none list =
     let zero = ap length none in
     omega arith
 
--- a setup that never grew needs no entries
-never_grew : (S : Museum) (n : ℕ) → S.growths ≡ [] → HasGrown S.growths n
-never_grew S n none = subst (λ (gs : List Growth). HasGrown gs n) (sym none) tt
-
--- opening a register without rows, with a setup that never grew, can fail only for lack of memory
-only_memory : (S : Museum) (fault : StoreFault) → S.growths ≡ [] → IsOpenFault S nothing fault
-    → CountsFault 0 0 fault → fault ≡ store.NoMemory
-only_memory S store.NoMemory small cause count = refl
-only_memory S store.Store small cause count = absurd (omega (arith, count))
-only_memory S store.OtherVersion small cause count = absurd (true≢false (sym cause))
-only_memory S store.OtherSetup small cause count =
+-- why a register without rows can't be opened
+session_fault : (S : Museum) (fault : StoreFault) → IsOpenFault S nothing fault
+    → CountsFault 0 0 fault → IsSessionFault S fault
+session_fault S store.NoMemory cause count = tt
+session_fault S store.Store cause count = absurd (omega (arith, count))
+session_fault S store.OtherVersion cause count = absurd (true≢false (sym cause))
+session_fault S store.OtherSetup cause count =
     absurd (omega (arith, length_permutation _ _ cause.0.2))
-only_memory S (store.Damaged at) small (inl cause) count = absurd (true≢false cause.1)
-only_memory S (store.Damaged at) small (inr (inl (depth, bound, wrong))) count =
+session_fault S (store.Damaged at) (inl cause) count = absurd (true≢false cause.1)
+session_fault S (store.Damaged at) (inr (inl (depth, bound, wrong))) count =
     let none = length_permutation _ _ wrong.all in
     let some = ap length wrong.first.split in
     absurd (omega (arith, length-append wrong.first.before (wrong.first.row ∷ wrong.first.after)))
-only_memory S (store.Damaged at) small (inr (inr (inl cut))) count =
-    absurd (cut.few (never_grew S (length cut.entries) small))
-only_memory S (store.Damaged at) small (inr (inr (inr (inl wrong)))) count =
+session_fault S (store.Damaged at) (inr (inr (inl cut))) count =
+    let none = no_entries cut.entries (bound_to S nothing) refl cut.list in
+    (cut.zero, λ grown. cut.few (subst (HasGrown S.growths) (sym none) grown))
+session_fault S (store.Damaged at) (inr (inr (inr (inl wrong)))) count =
     let none = no_entries wrong.entries (bound_to S nothing) refl wrong.list in
     let some = ap length wrong.wrong.all in
     absurd (omega (arith, length-append wrong.wrong.after (wrong.wrong.entry ∷ wrong.wrong.before)))
-only_memory S (store.Damaged at) small (inr (inr (inr (inr wrong)))) count =
+session_fault S (store.Damaged at) (inr (inr (inr (inr wrong)))) count =
     let none = nil_from_length wrong.entries
     (no_entries wrong.entries (bound_to S nothing) refl wrong.list) in
     let has : HasRows S [] (bound_to S nothing) =
@@ -95,23 +89,6 @@ only_memory S (store.Damaged at) small (inr (inr (inr (inr wrong)))) count =
       terms = IsPermutation-refl [];
     } in
     absurd (wrong.wrong (subst (λ P. HasRows S P (bound_to S nothing)) (sym none) has))
-
--- the rows of a setup file make nothing grow
-if_listed : {X : Type 0} (f : X → Museum) (S : Museum) (item : Option X)
-    → ((x : X) → (f x).growths ≡ S.growths) → (option_map_or f item S).growths ≡ S.growths
-if_listed f S None same = refl
-if_listed f S (Some x) same = same x
-
-row_small : (S : Museum) (row : Fields) → (with_row S row).growths ≡ S.growths
-row_small S row = if_listed (with_listed S) S (item_of row) (λ item. grind arith)
-
-rows_small : (S : Museum) (rows : List Fields) → (fold with_row S rows).growths ≡ S.growths
-rows_small S [] = refl
-rows_small S (row ∷ rows) =
-    rows_small (with_row S row) rows ∙ row_small S row
-
-pub read_small : (S : Museum) (rows : List Fields) → S ≡ museum_of rows → S.growths ≡ []
-read_small S rows is = ap (λ (T : Museum). T.growths) is ∙ rows_small no_museum rows
 
 -- nothing, in any order
 only_nothing : (c : Content) → AreSame nothing c → c ≡ nothing
@@ -166,19 +143,20 @@ fresh_without holding S hub new fresh sequences book down =
     }
 
 -- a hub that could not be opened over it
-pub only_memory_lacks : (S : Museum) (register left : Kept) (fault : StoreFault)
-    → S.growths ≡ [] → register.content ≡ nothing
+pub session_not_opened : (S : Museum) (register left : Kept) (fault : StoreFault)
+    → register.content ≡ nothing
     → Comes (in_memory register) (in_memory left) (IsNotOpened S fault)
-    → CountsFault 0 0 fault → fault ≡ store.NoMemory
-only_memory_lacks S register left fault small new comes count =
+    → CountsFault 0 0 fault → IsSessionFault S fault
+session_not_opened S register left fault new comes count =
     let (c, was, cause) = comes.from tt left.content (same_itself left.content) in
     let is : c ≡ nothing = only_nothing c (subst (λ (k : Content). AreSame k c) new was) in
-    only_memory S fault small (subst (λ (k : Content). IsOpenFault S k fault) is cause.0) count
+    session_fault S fault (subst (λ (k : Content). IsOpenFault S k fault) is cause.0) count
 
 -- opened with the head that was read
-pub opens_hub : (i i1 : Option (List ℕ)) (taken given : List ℕ) (setup : Museum) (hub : State NoStore)
-    → given ≡ taken → TakesHead i i1 taken → setup_fault given ≡ None
-    → setup ≡ museum_of (rows_of given) → IsFresh in_no_store hub setup → OpensHub i i1 hub
+pub opens_hub : (i i1 : Option (List ℕ)) (taken given : List ℕ) (setup : Museum)
+    (hub : State NoStore) → given ≡ taken → TakesHead i i1 taken
+    → setup_fault given ≡ None → setup ≡ museum_of (rows_of given)
+    → IsFresh in_no_store hub setup → OpensHub i i1 hub
 opens_hub None i1 taken given setup hub at takes none is fresh = tt
 opens_hub (Some bytes) i1 taken given setup hub at (is_head, short, left) none is fresh =
     let all : given ≡ head bytes = at ∙ is_head in
@@ -195,8 +173,8 @@ opens_hub (Some bytes) i1 taken given setup hub at (is_head, short, left) none i
     )
 
 -- the lines after the head are all answered
-pub lines_answered : (i i1 i2 o o' : Option (List ℕ)) (hub new : State NoStore) → OpensHub i i1 hub
-    → ((O : List Entry) (A : List Arrival) → StandsFor in_no_store hub O A
+pub lines_answered : (i i1 i2 o o' : Option (List ℕ)) (hub new : State NoStore)
+    → OpensHub i i1 hub → ((O : List Entry) (A : List Arrival) → StandsFor in_no_store hub O A
     → Answered hub.book.museum hub.book.depth O A i1 i2 o o' in_no_store new true)
     → IfSome i (λ bytes. (head_fault (head bytes) ≡ None) × IsAtEnd i2
     × Appends o o' (run_text bytes))

@@ -124,6 +124,15 @@ IsOpenFault S c OtherVersion = IsBindFault S c OtherVersion
 IsOpenFault S c OtherSetup = IsBindFault S c OtherSetup
 IsOpenFault S c (Damaged at) = IsBindFault S c (Damaged at) ⊎ HasWrongList S (bound_to S c) at
 
+-- Why a session without a store can't begin: no memory, or its setup has grown after some entry,
+-- and nothing is posted.
+abbrev pub IsSessionFault : Museum → StoreFault → Type 0
+IsSessionFault S NoMemory = Unit {0}
+IsSessionFault S Store = ⊥
+IsSessionFault S OtherVersion = ⊥
+IsSessionFault S OtherSetup = ⊥
+IsSessionFault S (Damaged at) = (at ≡ 0) × (HasGrown S.growths 0 → ⊥)
+
 -- If the store is quiet, only a lack of memory or a failing store keeps it from being opened with
 -- the setup: no other fault has its cause. By law (`laws::stored_list_opens`) the rows of a lawful
 -- list are so, if it has all entries before the newest growth.

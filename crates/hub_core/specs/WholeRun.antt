@@ -12,7 +12,6 @@ use Rattle.nest_core.specs.declared.setup_fault.SetupFault.{SetupFault}
 use Rattle.nest_core.specs.declared.setup_fault.SetupFault.TheVariants as setup
 use Rattle.register_store.specs.declared.plain.TheConstants.{NEW_DEPTH}
 use Rattle.register_store.specs.declared.no_store.NoStore.{NoStore}
-use Rattle.register_store.specs.Holdings.{Holding}
 use Rattle.register_store.specs.NoStore.{in_no_store}
 use Rattle.hub_core.specs.declared.replay_fault.ReplayFault.{ReplayFault}
 use Rattle.hub_core.specs.declared.replay_fault.ReplayFault.TheVariants as replay

@@ -4,7 +4,7 @@
 use Rattle.std.specs.Prelude.{ℕ, ℤ, ◌≡◌, ◌⊎◌, true, IsFalse, IsTrue, List, Option}
 use Rattle.hub_core.specs.declared.hub.answer.Arrival.{Arrival}
 use Rattle.hub_core.specs.declared.replay_fault.ReplayFault.{ReplayFault}
-use Rattle.hub_core.specs.Openings.{Opened, IsNotOpened}
+use Rattle.hub_core.specs.Openings.{Opened, IsNotOpened, IsSessionFault}
 use Rattle.hub_core.specs.Replayed as replayed
 use Rattle.hub_core.specs.StandsFor.{State, StandsFor, IsFresh}
 use Rattle.nest_core.specs.Museum.{Museum}
@@ -148,8 +148,10 @@ Stopped asks holding S before register work i i' o o' l l' fault =
     ⊎ OpenedAndStopped asks holding S before register work i i' o o' l l' fault
 
 -- No hub was opened for a session without a store. Nothing was read, written or logged.
-pub record IsNotBegun (i i' o o' l l' : Option (List ℕ)) (fault : WorkFault) : Type 0 where
+pub record IsNotBegun (S : Museum) (i i' o o' l l' : Option (List ℕ)) (fault : WorkFault) :
+    Type 0 where
   pub cause : StoreFault
+  pub why : IsSessionFault S cause
   pub is : fault ≡ of_store cause
   pub unread : i' ≡ i
   pub unwritten : o' ≡ o
@@ -164,6 +166,7 @@ pub record BegunAndStopped (asks : Asks) (S : Museum) (work : Work)
   pub stopped : Stops asks in_no_store hub after work i i' o o' l l' fault
 
 abbrev pub StoppedAlone : Asks → Museum → Work → Option (List ℕ) → Option (List ℕ)
-    → Option (List ℕ) → Option (List ℕ) → Option (List ℕ) → Option (List ℕ) → WorkFault → Type 0
+    → Option (List ℕ) → Option (List ℕ) → Option (List ℕ) → Option (List ℕ)
+    → WorkFault → Type 0
 StoppedAlone asks S work i i' o o' l l' fault =
-    IsNotBegun i i' o o' l l' fault ⊎ BegunAndStopped asks S work i i' o o' l l' fault
+    IsNotBegun S i i' o o' l l' fault ⊎ BegunAndStopped asks S work i i' o o' l l' fault

@@ -103,7 +103,8 @@ pub record Did {R : Type 0} (asks : Asks) (holding : R → Holding) (S : Museum)
 
 -- A hub without a store, and with nothing posted, did the work.
 pub record DidAlone (asks : Asks) (S : Museum) (work : Work)
-    (had_seen has_seen : List Outcome → Type 0) (i i' o o' l l' : Option (List ℕ)) : Type 0 where
+    (had_seen has_seen : List Outcome → Type 0) (i i' o o' l l' : Option (List ℕ)) :
+    Type 0 where
   pub hub : State NoStore
   pub fresh : IsFresh in_no_store hub S
   pub after : NoStore

@@ -1,6 +1,7 @@
 //! A hub without a store.
-ghost use Rattle.std.specs.Prelude.{◌≡◌, [], IfOk, IfErr};
+ghost use Rattle.std.specs.Prelude.{◌≡◌, IfOk, IfErr};
 ghost use Rattle.register_store.specs.NoStore.{in_no_store};
+ghost use Rattle.hub_core.specs.Openings.{IsSessionFault};
 ghost use Rattle.hub_core.specs.StandsFor.{IsFresh};
 
 use crate::Hub;
@@ -10,12 +11,10 @@ use std::alloc::Global;
 
 impl Hub<NoStore> {
     /// Opens a hub with this setup and nothing posted, for a session without a store. What it posts
-    /// is not stored. Fails as [`Hub::open`] over an empty register does: with `NoMemory`, or with
-    /// `Damaged(0)` if the setup has grown after some entry.
+    /// is not stored. Faults: NoMemory; Damaged(0), only if the setup has grown after some entry.
     pub fn session(alloc: Global, setup: Setup) -> Result<Hub<NoStore>, StoreFault>
         ensures fresh { IfOk result (λ hub. IsFresh in_no_store hub setup) }
-        ensures fault { IfErr result
-            (λ fault. setup.growths ≡ [] → fault ≡ StoreFault.NoMemory) }
+        ensures fault { IfErr result (IsSessionFault setup) }
     {
         match Hub::open(alloc, setup, PlainRegister::new(alloc)) {
             Ok(hub) => Ok(hub.without_store()),
