@@ -27,7 +27,7 @@ ORDER = (0, 2, 3, 1, 4, 5, 5, 6, 7)  # of the messages of a block
 MOST_BYTES = 1000
 FEWEST = 20_000
 FIRST = 2  # blocks of each station in the serving that tells how fast the disk is
-FULL = 33  # blocks of each station without a store: 340 lines, of which a lane holds 256
+FULL = 210  # blocks of each station without a store: 2,110 lines, of which a lane holds 2,048
 
 
 def crate_of(station):

@@ -1,9 +1,9 @@
 """Cases of servings with long feeds, made for refused_growths.py: a feed of one item more than its
-lane holds, and two feeds of 1,000 items.
+lane holds, and two feeds of 2,500 items.
 
 Each station moves a crate of its own to and fro. After each move it asks where the crate is, and
 last sends a faulty line."""
-LANE = 256
+LANE = 2048
 ROUND = 40  # lines: a message, questions, and a faulty line
 SETUP = "place,S1,inside\nplace,S2,inside\n"
 WORDS = ["serve", "--setup", "setup.csv", "--store", "museum.db"]
@@ -47,4 +47,4 @@ def made(folder, stations, count):
 def cases(folder):
     """The cases, each in a folder of its own."""
     one = made(folder / "one_more_than_a_lane", ["GAL"], LANE + 1)
-    return [one, made(folder / "two_long_feeds", ["PACK", "GAL"], 1000)]
+    return [one, made(folder / "two_long_feeds", ["PACK", "GAL"], 2500)]

@@ -1,12 +1,13 @@
-//! A station's lane: a ring with room for 256 items.
+//! A station's lane: a ring with room for 2,048 items.
 ghost use Rattle.std.specs.Prelude.{◌≡◌, [], ◌∷◌, ◌++◌, OnOk, IfErr, IfSome};
 ghost use Rattle.serve_core.specs.Lanes.{sent_items, SameLane, IsEndOf};
 
 use crate::Item;
 use rtrb::{Finished, Producer, PushError};
 
-/// How many items a lane has room for.
-pub(crate) const ROOM: usize = 256;
+/// How many items a lane has room for. The hub takes fewer than these while a thread
+/// [rests](crate::pause::rest), so that it doesn't have to wait for items.
+pub(crate) const ROOM: usize = 2048;
 
 /// The end of a lane through which a station sends, from its own thread.
 #[derive(Drop)]

@@ -27,7 +27,7 @@ fn three_turns(alloc: Global, hub: &mut Hub<PlainRegister>) -> Result<(u32, u32,
     let (mut lanes, mut intake) = lanes(alloc, 2)?;
     let mut back = 0;
     if lanes.len() == 2 {
-        back = send(&mut lanes[0], thing, 257);
+        back = send(&mut lanes[0], thing, 2049);
         let _ = send(&mut lanes[1], thing, 2);
     }
     let mut log = Log::new(alloc);
