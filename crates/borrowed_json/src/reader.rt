@@ -28,6 +28,7 @@ impl<'a> Value<'a> {
     /// Fails with `NotJson` if the bytes are not UTF-8 of one JSON value, if arrays and objects
     /// nest more than 127 deep, or if a number is out of range. Any call may fail with `NoMemory`
     /// instead.
+    #[inline(always)]
     pub fn from_slice(
         alloc: Global,
         bytes: &'a [u8],
@@ -43,6 +44,7 @@ impl<'a> Value<'a> {
 
     /// The same as [`from_slice`](Self::from_slice), with the lists of arrays and objects in this
     /// arena.
+    #[inline(always)]
     pub fn in_lists(
         bytes: &'a [u8],
         tokens: &'a mut TokenScratch,

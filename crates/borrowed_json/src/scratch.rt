@@ -26,6 +26,7 @@ impl Scratch {
     }
 
     /// Lends the memory for the tokens and the lists of a text. Fails with `NoMemory`.
+    #[inline(always)]
     pub(crate) fn lend(&mut self, alloc: Global) -> Result<(&mut TokenScratch, &Bump), TextFault>
         ensures { IfErr result (λ fault. fault ≡ TextFault.NoMemory) }
     {

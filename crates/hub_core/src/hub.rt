@@ -122,6 +122,7 @@ impl<R: Register> Hub<R> {
     /// Takes an arrival, and posts the messages that are then due. Faults: Down, exactly if the hub
     /// is down; NoMemory and Store, after which the hub is down. A message that is refused or held
     /// meets neither of these two (clause `answers`).
+    #[inline(always)]
     pub fn arrive(&mut self, alloc: Global, arrival: Arrival) -> Result<Answer, HubFault>
         // For every list of arrivals that the hub stands for: the reply is that of looking back,
         // and the hub then stands for the list with this arrival added.

@@ -38,6 +38,7 @@ pub fn message_of(alloc: Global, value: &Value) -> Result<Message, ReadFault>
 
 /// The same for any JSON value, whether it owns its text or borrows it.
 #[tactic(auto, using(crate::proofs::Objects::of_object, crate::proofs::Objects::no_object))]
+#[inline(always)]
 pub fn message_in<V: Fields>(alloc: Global, value: &V) -> Result<Message, ReadFault>
     ensures exact { MatchResult result (λ message. of_json (V.seen value.now) ≡ Ok message)
         (λ fault. fault ≢ ReadFault.NoMemory → of_json (V.seen value.now) ≡ Err fault) }

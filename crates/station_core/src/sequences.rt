@@ -76,6 +76,7 @@ impl<M: Drop> Sequences<M> {
 
     /// Takes message `n` of station `s` and holds it. [`test`](Self::test) must not refuse it.
     /// Returns `Ready` if it is the station's next message, otherwise `Held`.
+    #[inline(always)]
     pub fn take(&mut self, s: u32, n: u64, message: M) -> Taken
         requires { refusal_of self.old s n ≡ None }
         ensures held { self.new
@@ -93,6 +94,7 @@ impl<M: Drop> Sequences<M> {
     /// Returns the next message of station `s` and its number, if that message is held, and counts
     /// it as posted. Messages held under later numbers stay. After `None`, nothing has changed.
     /// Station `s` must exist.
+    #[inline(always)]
     pub fn next_due(&mut self, s: u32) -> Option<(u32, M)>
         requires { s < length self.old }
         ensures none { IfNone result (

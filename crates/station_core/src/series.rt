@@ -96,6 +96,7 @@ impl<M: Drop> Station<M> {
 
     /// Holds message `n`, which [`test`](Self::test) must not refuse. Returns `Ready` if it is the
     /// next message, otherwise `Held`.
+    #[inline(always)]
     pub fn take(&mut self, n: u64, message: M) -> Taken
         requires { refusal_at self.old n ≡ None }
         ensures held { self.new ≡ with_held self.old n message }
@@ -109,6 +110,7 @@ impl<M: Drop> Station<M> {
 
     /// Returns the next message and its number, if it is held, and counts it as posted. After
     /// `None`, nothing has changed.
+    #[inline(always)]
     pub fn next_due(&mut self) -> Option<(u32, M)>
         ensures none { IfNone result ((next_held self.old ≡ None) × (self.new ≡ self.old)) }
         ensures message { IfSome result (λ d. next_held self.old ≡ Some d.1) }
@@ -148,6 +150,7 @@ fn fill_empty<M: Drop>(slots: &mut HeapCircularBuffer<Option<M>>)
 
 /// Takes the message out of the first slot of a full ring, and moves the other slots up. If
 /// `is_last`, the others are all empty and nothing has to move.
+#[inline(always)]
 fn take_first<M: Drop>(slots: &mut HeapCircularBuffer<Option<M>>, is_last: bool) -> Option<M>
     requires some { 0 < length slots.old.items }
     requires full { length slots.old.items ≡ slots.old.capacity }
@@ -163,6 +166,7 @@ fn take_first<M: Drop>(slots: &mut HeapCircularBuffer<Option<M>>, is_last: bool)
 }
 
 /// Puts a message into slot `i` of a ring.
+#[inline(always)]
 fn put<M: Drop>(slots: &mut HeapCircularBuffer<Option<M>>, i: usize, message: M)
     requires { i < length slots.old.items }
     ensures { slots.new ≡ buffer (slice_set slots.old.items i (Some message)) slots.old.capacity }

@@ -35,6 +35,21 @@ pub(crate) fn from_lexeme(text: &str) -> &str
     ensures shorter { length result.now ≤ length text.now }
     ensures begins { is_blank (class (head result.now)) ≡ true → result.now ≡ [] }
 {
+    match after_space(text) {
+        Some(rest) => after_spaces(rest),
+        None => text,
+    }
+}
+
+/// The same, out of line: most texts have no spaces between lexemes.
+#[cold]
+#[inline(never)]
+fn after_spaces(text: &str) -> &str
+    ensures lexemes { lex between result.now ≡ lex between text.now }
+    ensures plain { IsPlain text.now → IsPlain result.now }
+    ensures shorter { length result.now ≤ length text.now }
+    ensures begins { is_blank (class (head result.now)) ≡ true → result.now ≡ [] }
+{
     let mut left = text;
     while let Some(rest) = after_space(left) {
         left = rest;
@@ -84,7 +99,7 @@ pub(crate) fn after(text: &str, operator: u8) -> Option<&str>
 
 /// The text of the string that is the first lexeme, and the rest. Returns `None` if there is no
 /// string, or if the string has an escape.
-#[inline(never)]
+#[inline(always)]
 pub(crate) fn string(text: &str) -> Option<(&str, &str)>
     ensures { MatchOption result
         (IsPlain text.now → (s : List ℕ) → Lacks text.now (token (string s)))

@@ -32,6 +32,7 @@ pub(crate) enum Unread {
 ///
 /// Fails with `Unusual` only if the text is not plain, or not UTF-8 of one JSON value, or if arrays
 /// and objects nest more than 127 deep. Any call may fail with `NoMemory`.
+#[inline(always)]
 pub(crate) fn plain_value<'a>(bytes: &'a [u8], lists: &'a Bump) -> Result<Value<'a>, Unread>
     ensures ok { IfOk result (λ v. IsUtf8 bytes.now × (read_text bytes.now ≡ Some (view v))) }
     ensures unusual { result ≡ Err Unread.Unusual → IsUtf8 bytes.now → IsPlain bytes.now
@@ -44,6 +45,7 @@ pub(crate) fn plain_value<'a>(bytes: &'a [u8], lists: &'a Bump) -> Result<Value<
 }
 
 /// Returns the value that a text spells.
+#[inline(always)]
 fn whole_value<'a>(text: &'a str, lists: &'a Bump) -> Result<Value<'a>, Unread>
     ensures ok { IfOk result (λ v. read_text text.now ≡ Some (view v)) }
     ensures unusual { result ≡ Err Unread.Unusual → IsPlain text.now

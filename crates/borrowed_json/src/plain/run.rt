@@ -7,7 +7,7 @@ ghost use Rattle.json.specs.Run.{is_stop, is_plain};
 use std::simd::prelude::*;
 
 /// The number of bytes before the first quote, backslash or control byte.
-#[inline(always)]
+#[inline(never)]
 pub(crate) fn plain_len(text: &str) -> usize
     ensures { result ≡ prefix_len is_plain text.now }
 {

@@ -19,6 +19,7 @@ use station_core::Sequences;
 use std::alloc::Global;
 
 /// Posts a station's due messages, one after another, up to a sign-off.
+#[inline(always)]
 pub(crate) fn post_due<R: Register>(
     alloc: Global,
     sequences: &mut Sequences<Message>,
@@ -56,6 +57,7 @@ pub(crate) fn post_due<R: Register>(
 }
 
 /// Posts a station's next message, with its verdict.
+#[inline(always)]
 fn post_next<R: Register>(
     alloc: Global,
     ledger: &mut Ledger,
@@ -92,6 +94,7 @@ fn post_next<R: Register>(
 
 /// Posts an entry with its changes, first in the register and then in the ledger. If the register
 /// fails, the ledger stays as it was.
+#[inline(always)]
 fn post_entry<R: Register>(
     alloc: Global,
     ledger: &mut Ledger,

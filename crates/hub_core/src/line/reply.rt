@@ -44,6 +44,7 @@ pub(crate) enum Reply {
 
 /// Acts on line `number`, counted from 1, and sets the text to the reply. An empty line has none.
 /// After a fault the hub has taken the line's arrival or not, or it is down and was stopped at it.
+#[inline(always)]
 pub(crate) fn reply_to<S: Register>(
     alloc: Global,
     scratch: &mut Scratch,
@@ -75,6 +76,7 @@ pub(crate) fn reply_to<S: Register>(
 }
 
 /// The same for a line that is neither empty nor too long. The reply is appended to the text.
+#[inline(always)]
 fn read_reply<S: Register>(
     alloc: Global,
     scratch: &mut Scratch,
@@ -132,6 +134,7 @@ pub fn answer_request<S: Register>(
 }
 
 /// Appends the reply to a line without a fault.
+#[inline(always)]
 fn request_reply<S: Register>(
     alloc: Global,
     number: u64,
@@ -165,6 +168,7 @@ fn request_reply<S: Register>(
 }
 
 /// Acts on a station's request, and appends the reply.
+#[inline(always)]
 fn station_reply<S: Register>(
     alloc: Global,
     station: StationNo,
@@ -200,6 +204,7 @@ fn station_reply<S: Register>(
 }
 
 /// Passes an arrival to the hub, and appends the reply.
+#[inline(always)]
 fn scan_reply<S: Register>(
     alloc: Global,
     arrival: Arrival,

@@ -48,6 +48,7 @@ pub fn read_line(alloc: Global, setup: &Setup, bytes: &[u8]) -> Result<Line, Rea
 }
 
 /// Like [`read_line`], with memory that is used for one line after another.
+#[inline(always)]
 pub fn read_line_with(
     alloc: Global,
     scratch: &mut Scratch,
@@ -108,6 +109,7 @@ fn object_of<V: Fields>(alloc: Global, value: &V) -> Result<Request, ReadFault>
 
 /// Reads the station and the request of a value. Faults: NotJson, then the station's, then those of
 /// the request. NoMemory comes only for a message of a kind that keeps a name or a list.
+#[inline(always)]
 fn line_of<V: Fields>(alloc: Global, setup: &Setup, value: &V) -> Result<Line, ReadFault>
     ensures exact { MatchResult result (λ line. line_of setup.now (V.seen value.now) ≡ Ok line)
         (λ fault. fault ≢ ReadFault.NoMemory → line_of setup.now (V.seen value.now) ≡ Err fault) }
@@ -125,6 +127,7 @@ fn line_of<V: Fields>(alloc: Global, setup: &Setup, value: &V) -> Result<Line, R
 }
 
 /// Reads the request of an object.
+#[inline(always)]
 fn request_of<V: Fields>(alloc: Global, object: &V) -> Result<Request, ReadFault>
     ensures exact { MatchResult result (λ request. request_of (V.seen object.now) ≡ Ok request)
         (λ fault. fault ≢ ReadFault.NoMemory → request_of (V.seen object.now) ≡ Err fault) }
@@ -153,6 +156,7 @@ fn number_of<V: Fields>(object: &V) -> Result<u64, ReadFault>
 }
 
 /// Reads an object's message. Faults: Missing, BadField, then the message's own.
+#[inline(always)]
 fn message_at<V: Fields>(alloc: Global, object: &V) -> Result<Message, ReadFault>
     ensures exact { MatchResult result
         (λ message. message_from (get (key_name Key.Message) (V.seen object.now)) ≡ Ok message)

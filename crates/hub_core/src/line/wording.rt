@@ -125,6 +125,7 @@ fn fault_words(fault: ReadFault) -> (&'static str, &'static str)
 /// Appends the reply to number `n` of a station. `posted` has the posted entries, oldest first. An
 /// answer with posted entries is one line for each entry from its first on, up to the end of
 /// `posted`. After NoMemory the text may end with a part of the reply.
+#[inline(always)]
 pub fn add_answer(
     text: &mut String,
     setup: &Setup,

@@ -192,6 +192,7 @@ fn answer_lines<R: BufRead, W: Write, S: Register, V: Watch>(
 /// Writes these bytes, in at most 4,294,967,295 writes. A write that takes no byte has failed.
 /// `Write::write_all` does the same, but its contract doesn't promise that the bytes it wrote
 /// before a failure are the first ones. Fault: WriteFailed.
+#[inline(always)]
 pub fn write_text<W: Write>(output: &mut W, text: &[u8]) -> Result<(), ReplayFault>
     ensures ok { OnOk result (Appends (W.contents output.old) (W.contents output.new) text.now) }
     ensures fault { OnErr result

@@ -3,7 +3,7 @@ use denote.Text.{Utf8}
 use Rattle.std.proofs.Common.{◌≡◌, ◌≤◌, length}
 use Rattle.json.specs.Lex.{between, lex}
 use Rattle.borrowed_json.specs.Plain.{IsPlain}
-use Rattle.borrowed_json.proofs.plain.lexeme.from_lexeme.Given as goal
+use Rattle.borrowed_json.proofs.plain.lexeme.after_spaces.Given as goal
 
 abbrev pub invariant-loop-rest : goal.invariant-loop-rest
 invariant-loop-rest l =
