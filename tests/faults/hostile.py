@@ -72,7 +72,8 @@ def record(room):
         return {"PACK": 0, "GAL": 0}
     ran = room.run(*room.words("posted"))
     posted = without_advice(ran)
-    if " has no record yet" in ran[2]:
+    # a run that is killed while it begins a store may leave the store's first name, too
+    if " has no record yet" in ran[2] or " has a second name" in ran[2]:
         return {"PACK": 0, "GAL": 0}
     if posted[0] != 0:
         print(f"{posted}")

@@ -7,7 +7,7 @@ use count_core::{CountAnswer, CountRow};
 use std::alloc::Global;
 
 /// A thing that was seen at another place than the record has, and the place where it was seen.
-#[derive(Clone, Copy, Debug)]
+#[derive(Clone, Copy)]
 pub(crate) struct Sighting {
     pub thing: ThingCode,
     pub place: PlaceCode,

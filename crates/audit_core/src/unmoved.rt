@@ -7,7 +7,7 @@ use count_core::{CountAnswer, CountRow};
 use std::alloc::Global;
 
 /// A row with its answer, which says why no line comes of it.
-#[derive(Clone, Copy, Debug)]
+#[derive(Clone, Copy)]
 pub(crate) struct Unmoved {
     pub row: CountRow,
     pub answer: CountAnswer,

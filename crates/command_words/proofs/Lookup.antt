@@ -2,7 +2,8 @@
 use Rattle.std.proofs.Common.{◌≡◌, ◌<◌, ◌≤◌, ◌+◌, ◌∙◌, ◌∷◌, [], Bool, List, None, Option, Result}
 use Rattle.std.proofs.Common.{Some, ap, cond, drop, false, get_or, is_some, length, map, refl}
 use Rattle.std.proofs.Common.{subst, sym, true, unwrap_or, ℕ}
-use Rattle.std.specs.Prelude.{find, slice_get}
+use Rattle.std.specs.Prelude.{Box, find, slice_get}
+use Rattle.std.specs.declared.alloc.Global.{Global}
 use Rattle.std.specs.Option.{option_and_then}
 use Rattle.std.proofs.lemmas.Bool.{false≢true}
 use Rattle.std.specs.Str.{bytes_eq}
@@ -94,7 +95,7 @@ module _ (n known : Name) (words : List Text) where
       first_is (slice_get words 0) (form_by n) named
       ∙ ap (λ (m : Name). Some (form_by m).app.top.name) is
 
-  pub chooses_by : (result : Result Chosen WordsFault) → Some (form_by n) ≡ form_named words
+  pub chooses_by : (result : Result (Box Chosen Global) WordsFault) → Some (form_by n) ≡ form_named words
       → n ≡ known → Chooses (Some (form_by known)) words result
       → Chooses (form_named words) words result
   chooses_by result named is chosen =
@@ -102,7 +103,7 @@ module _ (n known : Name) (words : List Text) where
       (ap (λ (m : Name). Some (form_by m)) (sym is) ∙ named) chosen
 
 -- for words that name none
-pub chooses_none : (words : List Text) (result : Result Chosen WordsFault)
+pub chooses_none : (words : List Text) (result : Result (Box Chosen Global) WordsFault)
     → None ≡ form_named words → Chooses None words result
     → Chooses (form_named words) words result
 chooses_none words result none chosen =

@@ -1,6 +1,8 @@
 -- Defines the report that the words of a line at a desk ask for.
-use Rattle.std.specs.Prelude.{◌≡◌, ◌∷◌, ◌++◌, ◌&&◌, [], Bool, Err, List, Ok, Option, None, Result}
+use Rattle.std.specs.Prelude.{◌≡◌, ◌∷◌, ◌++◌, ◌&&◌, [], Bool, Box, Err, List, Ok, Option, None}
+use Rattle.std.specs.Prelude.{Result}
 use Rattle.std.specs.Prelude.{Some, codes, drop, false, if◌then◌else◌, is_some, not, take, true}
+use Rattle.std.specs.declared.alloc.Global.{Global}
 use Rattle.clap.specs.Words.{Text}
 use Rattle.command_words.specs.Words.{Chooses, form_named}
 use Rattle.command_words.specs.declared.command.Asked.{Asked}
@@ -38,12 +40,12 @@ desk_question (command.Report report question) =
 desk_question _ = None
 
 -- The question of a command line, or none after a usage error.
-abbrev pub IsQuestionOf : Result Chosen WordsFault → Option Asked → Type 0
-IsQuestionOf (Ok chosen) question = question ≡ desk_question chosen
+abbrev pub IsQuestionOf : Result (Box Chosen Global) WordsFault → Option Asked → Type 0
+IsQuestionOf (Ok chosen) question = question ≡ desk_question chosen.value
 IsQuestionOf (Err NoMemory) question = ⊥
 IsQuestionOf (Err fault) question = question ≡ None
 
 -- The question is that of the command that the words choose. It is none if they choose none.
 abbrev pub IsAskedBy : List Text → Option Asked → Type 0
-IsAskedBy words question = (told : Result Chosen WordsFault)
+IsAskedBy words question = (told : Result (Box Chosen Global) WordsFault)
     × (Chooses (form_named words) words told × IsQuestionOf told question)

@@ -1,12 +1,13 @@
 -- Defines the command that the words of a command line choose, or the fault by which they choose
 -- none. `fault_of` and `matches_of` are `clap`'s: the kinds of error that it can report for the
 -- words, empty if it accepts them, and the values that it then has for each argument.
-use Rattle.std.specs.Prelude.{◌≡◌, ◌≢◌, ◌∷◌, [], ℕ, Bool, List, Option, Result, Some, None}
+use Rattle.std.specs.Prelude.{◌≡◌, ◌≢◌, ◌∷◌, [], ℕ, Bool, Box, List, Option, Result, Some, None}
 use Rattle.std.specs.Prelude.{MatchResult, codes, find, is_some}
 use Rattle.std.specs.Prelude.{◌&&◌, ◌||◌, false, if◌then◌else◌, map, not, option_map, slice_get, true}
 use Rattle.std.specs.Prelude.{unwrap_or}
 use Rattle.std.specs.Borrow.{Bor}
 use Rattle.std.specs.List.{list_any}
+use Rattle.std.specs.declared.alloc.Global.{Global}
 use Rattle.std.specs.Option.{option_and_then, option_map_or}
 use Rattle.std.specs.Str.{bytes_eq}
 use Rattle.clap.specs.Words.{App, Row, Text, all_of, first_of, matches_of}
@@ -352,7 +353,7 @@ abbrev pub IsFault : List Text → WordsFault → Type 0
 IsFault words fault = IsFaultBy (form_named words) words fault
 
 -- The command that the words choose, or the fault.
-abbrev pub Chooses : Option Form → List Text → Result Chosen WordsFault → Type 0
+abbrev pub Chooses : Option Form → List Text → Result (Box Chosen Global) WordsFault → Type 0
 Chooses form words result = MatchResult result
-    (λ chosen. (kinds_by form words ≡ []) × IsChosen words chosen)
+    (λ chosen. (kinds_by form words ≡ []) × IsChosen words chosen.value)
     (IsFaultBy form words)

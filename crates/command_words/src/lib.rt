@@ -1,11 +1,11 @@
 //! Reads the words of a command line, returns the command that they choose, and has the texts of
 //! the help.
 //!
-//! [`words::chosen`] returns a [`Chosen`]: one of thirty-one commands with its values, among them
-//! the [`Format`] of a report. `clap` does the reading; a [`WordsFault`] carries its error and has
-//! the program's exit status. [`completion::complete`] adds a default setup and store to the words,
-//! and [`needs::list_missing`] lists the arguments that they lack. [`desk::asked`] reads the words
-//! of a report that is typed at a desk.
+//! [`words::chosen`] returns a [`Chosen`] in a box: one of thirty-one commands with its values,
+//! among them the [`Format`] of a report. `clap` does the reading; a [`WordsFault`] carries its
+//! error and has the program's exit status. [`completion::complete`] adds a default setup and store
+//! to the words, and [`needs::list_missing`] lists the arguments that they lack. [`desk::asked`]
+//! reads the words of a report that is typed at a desk.
 //!
 //! [`page_of`] returns the help page of a [`Topic`]. A [`Meaning`] explains a word: what it means,
 //! its usual cause, and what to do. [`VERDICTS`] has those of the verdicts. [`DESK_HELP`] and
@@ -30,7 +30,9 @@
 //! ```text
 //! let words = complete(alloc, given, setup, store)?;
 //! match chosen(alloc, words.as_slice()) {
-//!     Ok(Chosen::Report(report, Asked::Where(code))) => ..,
+//!     Ok(chosen) => match &*chosen {
+//!         Chosen::Report(report, Asked::Where(code)) => ..,
+//!     },
 //!     Err(fault) => fault.status(),
 //! }
 //!

@@ -8,20 +8,20 @@ ghost use Rattle.command_words.specs.Commands as commands;
 ghost use Rattle.command_words.specs.Words.{Chooses, HoldsAudit, HoldsTable, IsMissing, IsNamed};
 ghost use Rattle.command_words.specs.Words.{texts_of};
 
-use crate::reading::{files_of, is_set, one, read, record_of};
+use crate::reading::{boxed, files_of, is_set, one, read, record_of};
 use crate::shapes::Name;
 use crate::{AuditWords, Chosen, TableWords, WordsFault};
 use clap::ArgMatches;
 use std::alloc::Global;
 
-pub(crate) fn lines<'a>(alloc: Global, words: &'a [&'a str]) -> Result<Chosen<'a>, WordsFault>
+pub(crate) fn lines<'a>(alloc: Global, words: &'a [&'a str]) -> Result<Box<Chosen<'a>>, WordsFault>
     requires { IsNamed (texts_of words.now) (codes "lines") }
     ensures { Chooses (Some commands.lines) (texts_of words.now) result }
 {
     let matches = read(alloc, Name::Lines, words)?;
     let table = table_words(&matches);
     drop(matches);
-    Ok(Chosen::Lines(table?))
+    boxed(alloc, Chosen::Lines(table?))
 }
 
 /// The arguments of `lines`. Fault: Missing, exactly if one that is needed is missing.
@@ -55,7 +55,7 @@ fn table_words<'a, 'b>(found: &'b ArgMatches<'a>) -> Result<TableWords<'a>, Word
     })
 }
 
-pub(crate) fn check<'a>(alloc: Global, words: &'a [&'a str]) -> Result<Chosen<'a>, WordsFault>
+pub(crate) fn check<'a>(alloc: Global, words: &'a [&'a str]) -> Result<Box<Chosen<'a>>, WordsFault>
     requires { IsNamed (texts_of words.now) (codes "check") }
     ensures { Chooses (Some commands.check_files) (texts_of words.now) result }
 {
@@ -64,14 +64,17 @@ pub(crate) fn check<'a>(alloc: Global, words: &'a [&'a str]) -> Result<Chosen<'a
     let counts = one(&matches, "counts");
     let lines = one(&matches, "lines");
     drop(matches);
-    Ok(Chosen::Check {
-        setup,
-        counts,
-        lines,
-    })
+    boxed(
+        alloc,
+        Chosen::Check {
+            setup,
+            counts,
+            lines,
+        },
+    )
 }
 
-pub(crate) fn gap<'a>(alloc: Global, words: &'a [&'a str]) -> Result<Chosen<'a>, WordsFault>
+pub(crate) fn gap<'a>(alloc: Global, words: &'a [&'a str]) -> Result<Box<Chosen<'a>>, WordsFault>
     requires { IsNamed (texts_of words.now) (codes "gap") }
     ensures { Chooses (Some commands.gap) (texts_of words.now) result }
 {
@@ -81,17 +84,20 @@ pub(crate) fn gap<'a>(alloc: Global, words: &'a [&'a str]) -> Result<Chosen<'a>,
     let by = one(&matches, "by");
     drop(matches);
     match (files.setup, files.store, station, by) {
-        (Some(setup), Some(store), Some(station), Some(by)) => Ok(Chosen::Gap {
-            setup,
-            store,
-            station,
-            by,
-        }),
+        (Some(setup), Some(store), Some(station), Some(by)) => boxed(
+            alloc,
+            Chosen::Gap {
+                setup,
+                store,
+                station,
+                by,
+            },
+        ),
         _ => Err(WordsFault::Missing),
     }
 }
 
-pub(crate) fn resend<'a>(alloc: Global, words: &'a [&'a str]) -> Result<Chosen<'a>, WordsFault>
+pub(crate) fn resend<'a>(alloc: Global, words: &'a [&'a str]) -> Result<Box<Chosen<'a>>, WordsFault>
     requires { IsNamed (texts_of words.now) (codes "resend") }
     ensures { Chooses (Some commands.resend) (texts_of words.now) result }
 {
@@ -101,24 +107,27 @@ pub(crate) fn resend<'a>(alloc: Global, words: &'a [&'a str]) -> Result<Chosen<'
     let file = one(&matches, "file");
     drop(matches);
     match (files.setup, files.store, station, file) {
-        (Some(setup), Some(store), Some(station), Some(file)) => Ok(Chosen::Resend {
-            setup,
-            store,
-            station,
-            file,
-        }),
+        (Some(setup), Some(store), Some(station), Some(file)) => boxed(
+            alloc,
+            Chosen::Resend {
+                setup,
+                store,
+                station,
+                file,
+            },
+        ),
         _ => Err(WordsFault::Missing),
     }
 }
 
-pub(crate) fn audit<'a>(alloc: Global, words: &'a [&'a str]) -> Result<Chosen<'a>, WordsFault>
+pub(crate) fn audit<'a>(alloc: Global, words: &'a [&'a str]) -> Result<Box<Chosen<'a>>, WordsFault>
     requires { IsNamed (texts_of words.now) (codes "audit") }
     ensures { Chooses (Some commands.audit) (texts_of words.now) result }
 {
     let matches = read(alloc, Name::Audit, words)?;
     let moves = audit_words(&matches);
     drop(matches);
-    Ok(Chosen::Audit(moves?))
+    boxed(alloc, Chosen::Audit(moves?))
 }
 
 /// The arguments of `audit`. Fault: Missing, exactly if one that is needed is missing.

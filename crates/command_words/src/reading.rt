@@ -8,11 +8,18 @@ ghost use Rattle.command_words.specs.Words.{IsRead, IsRefused, all_in};
 ghost use Rattle.command_words.specs.Words.{is_true, text_of, texts_of, value};
 ghost use Rattle.command_words.specs.declared.command.WordsFault.TheVariants.{Missing, NoMemory};
 
-use crate::WordsFault;
 use crate::shapes::{Name, command_of};
+use crate::{Chosen, WordsFault};
 use clap::error::ErrorKind;
 use clap::{ArgMatches, Command, Error};
 use std::alloc::{AllocError, Global};
+
+/// Puts the command into a box. Fault: NoMemory, if memory runs out.
+pub(crate) fn boxed<'a>(alloc: Global, chosen: Chosen<'a>) -> Result<Box<Chosen<'a>>, WordsFault>
+    ensures { MatchResult result (λ b. b.value ≡ chosen.entry) (λ fault. fault ≡ NoMemory) }
+{
+    Ok(Box::new(alloc, chosen)?)
+}
 
 /// The setup and the store, if the words name them.
 #[derive(Clone, Copy)]

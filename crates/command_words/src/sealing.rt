@@ -5,12 +5,12 @@ ghost use Rattle.std.specs.Prelude.{Some, codes};
 ghost use Rattle.command_words.specs.Commands as commands;
 ghost use Rattle.command_words.specs.Words.{Chooses, IsNamed, texts_of};
 
-use crate::reading::{files_of, one, read, record_of};
+use crate::reading::{boxed, files_of, one, read, record_of};
 use crate::shapes::Name;
 use crate::{Chosen, WordsFault};
 use std::alloc::Global;
 
-pub(crate) fn seal<'a>(alloc: Global, words: &'a [&'a str]) -> Result<Chosen<'a>, WordsFault>
+pub(crate) fn seal<'a>(alloc: Global, words: &'a [&'a str]) -> Result<Box<Chosen<'a>>, WordsFault>
     requires { IsNamed (texts_of words.now) (codes "seal") }
     ensures { Chooses (Some commands.seal) (texts_of words.now) result }
 {
@@ -20,15 +20,21 @@ pub(crate) fn seal<'a>(alloc: Global, words: &'a [&'a str]) -> Result<Chosen<'a>
     let check = one(&matches, "check");
     drop(matches);
     let record = record_of(files)?;
-    Ok(Chosen::Seal {
-        setup: record.setup,
-        store: record.store,
-        upto,
-        check,
-    })
+    boxed(
+        alloc,
+        Chosen::Seal {
+            setup: record.setup,
+            store: record.store,
+            upto,
+            check,
+        },
+    )
 }
 
-pub(crate) fn receipt<'a>(alloc: Global, words: &'a [&'a str]) -> Result<Chosen<'a>, WordsFault>
+pub(crate) fn receipt<'a>(
+    alloc: Global,
+    words: &'a [&'a str],
+) -> Result<Box<Chosen<'a>>, WordsFault>
     requires { IsNamed (texts_of words.now) (codes "receipt") }
     ensures { Chooses (Some commands.receipt) (texts_of words.now) result }
 {
@@ -39,15 +45,18 @@ pub(crate) fn receipt<'a>(alloc: Global, words: &'a [&'a str]) -> Result<Chosen<
     let check = one(&matches, "check");
     drop(matches);
     if let Some(file) = check {
-        return Ok(Chosen::CheckReceipt { file, entry, upto });
+        return boxed(alloc, Chosen::CheckReceipt { file, entry, upto });
     }
     match (files.setup, files.store, entry) {
-        (Some(setup), Some(store), Some(entry)) => Ok(Chosen::Receipt {
-            setup,
-            store,
-            entry,
-            upto,
-        }),
+        (Some(setup), Some(store), Some(entry)) => boxed(
+            alloc,
+            Chosen::Receipt {
+                setup,
+                store,
+                entry,
+                upto,
+            },
+        ),
         _ => Err(WordsFault::Missing),
     }
 }

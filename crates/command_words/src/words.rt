@@ -13,7 +13,9 @@ use crate::preparation::{audit, check, gap, lines, resend};
 use crate::questions::{
     at, contents, dues, explain, help, loan, loans, posted, stations, where_is, why,
 };
-use crate::reading::{all, files_of, is_set, needed, one, read, read_by, read_word, record_of};
+use crate::reading::{
+    all, boxed, files_of, is_set, needed, one, read, read_by, read_word, record_of,
+};
 use crate::report_reading::{read_report, read_report_and, read_report_and_flag};
 use crate::sealing::{receipt, seal};
 use crate::shapes::{self, Name, find_command};
@@ -21,8 +23,8 @@ use crate::{Asked, Chosen, DeskWords, WordsFault};
 use clap::ArgMatches;
 use std::alloc::{AllocError, Global};
 
-/// Returns the command that the words choose. They are the words after the program's name. The
-/// first one names the command, and each value is the one that `clap` has for it.
+/// Returns the command that the words choose, in a box. They are the words after the program's
+/// name. The first one names the command, and each value is the one that `clap` has for it.
 ///
 /// Faults, in this order:
 /// - Refused, if `clap` rejects the words, if they ask for help or the version, or if a report has
@@ -30,8 +32,8 @@ use std::alloc::{AllocError, Global};
 /// - Missing, if no command is named, or if a value that the command needs is missing.
 ///
 /// NoMemory can come instead of any result.
-pub fn chosen<'a>(alloc: Global, words: &'a [&'a str]) -> Result<Chosen<'a>, WordsFault>
-    ensures chosen { IfOk result (IsChosen (texts_of words.now)) }
+pub fn chosen<'a>(alloc: Global, words: &'a [&'a str]) -> Result<Box<Chosen<'a>>, WordsFault>
+    ensures chosen { IfOk result (λ chosen. IsChosen (texts_of words.now) chosen.value) }
     ensures taken { OnOk result (refusals (texts_of words.now) ≡ []) }
     ensures fault { IfErr result (IsFault (texts_of words.now)) }
 {
@@ -42,7 +44,7 @@ pub fn chosen<'a>(alloc: Global, words: &'a [&'a str]) -> Result<Chosen<'a>, Wor
 }
 
 /// The command that the first word names, with its values.
-fn named<'a>(alloc: Global, name: Name, words: &'a [&'a str]) -> Result<Chosen<'a>, WordsFault>
+fn named<'a>(alloc: Global, name: Name, words: &'a [&'a str]) -> Result<Box<Chosen<'a>>, WordsFault>
     requires { Some (form_by name) ≡ form_named (texts_of words.now) }
     ensures { Chooses (form_named (texts_of words.now)) (texts_of words.now) result }
 {
@@ -81,7 +83,7 @@ fn named<'a>(alloc: Global, name: Name, words: &'a [&'a str]) -> Result<Chosen<'
     }
 }
 
-fn replay<'a>(alloc: Global, words: &'a [&'a str]) -> Result<Chosen<'a>, WordsFault>
+fn replay<'a>(alloc: Global, words: &'a [&'a str]) -> Result<Box<Chosen<'a>>, WordsFault>
     requires { IsNamed (texts_of words.now) (codes "replay") }
     ensures { Chooses (Some commands.replay) (texts_of words.now) result }
 {
@@ -92,18 +94,21 @@ fn replay<'a>(alloc: Global, words: &'a [&'a str]) -> Result<Chosen<'a>, WordsFa
     let why = is_set(&matches, "why");
     drop(matches);
     match files.setup {
-        Some(setup) => Ok(Chosen::Replay {
-            setup,
-            store: files.store,
-            progress,
-            strict,
-            why,
-        }),
+        Some(setup) => boxed(
+            alloc,
+            Chosen::Replay {
+                setup,
+                store: files.store,
+                progress,
+                strict,
+                why,
+            },
+        ),
         None => Err(WordsFault::Missing),
     }
 }
 
-fn serve<'a>(alloc: Global, words: &'a [&'a str]) -> Result<Chosen<'a>, WordsFault>
+fn serve<'a>(alloc: Global, words: &'a [&'a str]) -> Result<Box<Chosen<'a>>, WordsFault>
     requires { IsNamed (texts_of words.now) (codes "serve") }
     ensures { Chooses (Some commands.serve) (texts_of words.now) result }
 {
@@ -112,16 +117,19 @@ fn serve<'a>(alloc: Global, words: &'a [&'a str]) -> Result<Chosen<'a>, WordsFau
     let feeds = all(alloc, &matches, "feeds");
     drop(matches);
     match files.setup {
-        Some(setup) => Ok(Chosen::Serve {
-            setup,
-            store: files.store,
-            feeds: feeds?,
-        }),
+        Some(setup) => boxed(
+            alloc,
+            Chosen::Serve {
+                setup,
+                store: files.store,
+                feeds: feeds?,
+            },
+        ),
         None => Err(WordsFault::Missing),
     }
 }
 
-fn desk<'a>(alloc: Global, words: &'a [&'a str]) -> Result<Chosen<'a>, WordsFault>
+fn desk<'a>(alloc: Global, words: &'a [&'a str]) -> Result<Box<Chosen<'a>>, WordsFault>
     requires { IsNamed (texts_of words.now) (codes "desk") }
     ensures { Chooses (Some commands.desk) (texts_of words.now) result }
 {
@@ -130,9 +138,9 @@ fn desk<'a>(alloc: Global, words: &'a [&'a str]) -> Result<Chosen<'a>, WordsFaul
     let desk = desk_words(&matches);
     drop(matches);
     if cards {
-        return Ok(Chosen::Cards);
+        return boxed(alloc, Chosen::Cards);
     }
-    Ok(Chosen::Desk(desk?))
+    boxed(alloc, Chosen::Desk(desk?))
 }
 
 /// The arguments of `desk`. Fault: Missing, exactly if one that is needed is missing.
@@ -160,39 +168,39 @@ fn desk_words<'a, 'b>(found: &'b ArgMatches<'a>) -> Result<DeskWords<'a>, WordsF
     })
 }
 
-fn count<'a>(alloc: Global, words: &'a [&'a str]) -> Result<Chosen<'a>, WordsFault>
+fn count<'a>(alloc: Global, words: &'a [&'a str]) -> Result<Box<Chosen<'a>>, WordsFault>
     requires { IsNamed (texts_of words.now) (codes "count") }
     ensures { Chooses (Some commands.count) (texts_of words.now) result }
 {
     let (report, list, sealed) = read_report_and_flag(alloc, Name::Count, words, "list", "sealed")?;
-    Ok(Chosen::Report(report, Asked::Count { list, sealed }))
+    boxed(alloc, Chosen::Report(report, Asked::Count { list, sealed }))
 }
 
-fn overdue<'a>(alloc: Global, words: &'a [&'a str]) -> Result<Chosen<'a>, WordsFault>
+fn overdue<'a>(alloc: Global, words: &'a [&'a str]) -> Result<Box<Chosen<'a>>, WordsFault>
     requires { IsNamed (texts_of words.now) (codes "overdue") }
     ensures { Chooses (Some commands.overdue) (texts_of words.now) result }
 {
     let (report, on) = read_report_and(alloc, Name::Overdue, words, "on")?;
-    Ok(Chosen::Report(report, Asked::Overdue(on)))
+    boxed(alloc, Chosen::Report(report, Asked::Overdue(on)))
 }
 
-fn away<'a>(alloc: Global, words: &'a [&'a str]) -> Result<Chosen<'a>, WordsFault>
+fn away<'a>(alloc: Global, words: &'a [&'a str]) -> Result<Box<Chosen<'a>>, WordsFault>
     requires { IsNamed (texts_of words.now) (codes "away") }
     ensures { Chooses (Some commands.away) (texts_of words.now) result }
 {
     let report = read_report(alloc, Name::Away, words)?;
-    Ok(Chosen::Report(report, Asked::Away))
+    boxed(alloc, Chosen::Report(report, Asked::Away))
 }
 
-fn history<'a>(alloc: Global, words: &'a [&'a str]) -> Result<Chosen<'a>, WordsFault>
+fn history<'a>(alloc: Global, words: &'a [&'a str]) -> Result<Box<Chosen<'a>>, WordsFault>
     requires { IsNamed (texts_of words.now) (codes "history") }
     ensures { Chooses (Some commands.history) (texts_of words.now) result }
 {
     let (report, code, long) = read_report_and_flag(alloc, Name::History, words, "code", "long")?;
-    Ok(Chosen::Report(report, Asked::History { code, long }))
+    boxed(alloc, Chosen::Report(report, Asked::History { code, long }))
 }
 
-fn migrate<'a>(alloc: Global, words: &'a [&'a str]) -> Result<Chosen<'a>, WordsFault>
+fn migrate<'a>(alloc: Global, words: &'a [&'a str]) -> Result<Box<Chosen<'a>>, WordsFault>
     requires { IsNamed (texts_of words.now) (codes "migrate") }
     ensures { Chooses (Some commands.migrate) (texts_of words.now) result }
 {
@@ -200,13 +208,16 @@ fn migrate<'a>(alloc: Global, words: &'a [&'a str]) -> Result<Chosen<'a>, WordsF
     let files = files_of(&matches);
     drop(matches);
     let record = record_of(files)?;
-    Ok(Chosen::Migrate {
-        setup: record.setup,
-        store: record.store,
-    })
+    boxed(
+        alloc,
+        Chosen::Migrate {
+            setup: record.setup,
+            store: record.store,
+        },
+    )
 }
 
-fn copy<'a>(alloc: Global, words: &'a [&'a str]) -> Result<Chosen<'a>, WordsFault>
+fn copy<'a>(alloc: Global, words: &'a [&'a str]) -> Result<Box<Chosen<'a>>, WordsFault>
     requires { IsNamed (texts_of words.now) (codes "copy") }
     ensures { Chooses (Some commands.copy) (texts_of words.now) result }
 {
@@ -215,12 +226,12 @@ fn copy<'a>(alloc: Global, words: &'a [&'a str]) -> Result<Chosen<'a>, WordsFaul
     let to = one(&matches, "to");
     drop(matches);
     match (files.setup, files.store, to) {
-        (Some(setup), Some(store), Some(to)) => Ok(Chosen::Copy { setup, store, to }),
+        (Some(setup), Some(store), Some(to)) => boxed(alloc, Chosen::Copy { setup, store, to }),
         _ => Err(WordsFault::Missing),
     }
 }
 
-fn page<'a>(alloc: Global, words: &'a [&'a str]) -> Result<Chosen<'a>, WordsFault>
+fn page<'a>(alloc: Global, words: &'a [&'a str]) -> Result<Box<Chosen<'a>>, WordsFault>
     requires { IsNamed (texts_of words.now) (codes "page") }
     ensures { Chooses (Some commands.page) (texts_of words.now) result }
 {
@@ -230,15 +241,18 @@ fn page<'a>(alloc: Global, words: &'a [&'a str]) -> Result<Chosen<'a>, WordsFaul
     let upto = one(&matches, "upto");
     drop(matches);
     let record = record_of(files)?;
-    Ok(Chosen::Page {
-        setup: record.setup,
-        store: record.store,
-        on,
-        upto,
-    })
+    boxed(
+        alloc,
+        Chosen::Page {
+            setup: record.setup,
+            store: record.store,
+            on,
+            upto,
+        },
+    )
 }
 
-fn export<'a>(alloc: Global, words: &'a [&'a str]) -> Result<Chosen<'a>, WordsFault>
+fn export<'a>(alloc: Global, words: &'a [&'a str]) -> Result<Box<Chosen<'a>>, WordsFault>
     requires { IsNamed (texts_of words.now) (codes "export") }
     ensures { Chooses (Some commands.export) (texts_of words.now) result }
 {
@@ -247,12 +261,12 @@ fn export<'a>(alloc: Global, words: &'a [&'a str]) -> Result<Chosen<'a>, WordsFa
     let target = one(&matches, "to");
     drop(matches);
     match (files.setup, files.store, target) {
-        (Some(setup), Some(store), Some(to)) => Ok(Chosen::Export { setup, store, to }),
+        (Some(setup), Some(store), Some(to)) => boxed(alloc, Chosen::Export { setup, store, to }),
         _ => Err(WordsFault::Missing),
     }
 }
 
-fn grow<'a>(alloc: Global, words: &'a [&'a str]) -> Result<Chosen<'a>, WordsFault>
+fn grow<'a>(alloc: Global, words: &'a [&'a str]) -> Result<Box<Chosen<'a>>, WordsFault>
     requires { IsNamed (texts_of words.now) (codes "grow") }
     ensures { Chooses (Some commands.grow) (texts_of words.now) result }
 {
@@ -261,26 +275,32 @@ fn grow<'a>(alloc: Global, words: &'a [&'a str]) -> Result<Chosen<'a>, WordsFaul
     let check = is_set(&matches, "check");
     drop(matches);
     let record = record_of(files)?;
-    Ok(Chosen::Grow {
-        setup: record.setup,
-        store: record.store,
-        check,
-    })
+    boxed(
+        alloc,
+        Chosen::Grow {
+            setup: record.setup,
+            store: record.store,
+            check,
+        },
+    )
 }
 
-fn print_setup<'a>(alloc: Global, words: &'a [&'a str]) -> Result<Chosen<'a>, WordsFault>
+fn print_setup<'a>(alloc: Global, words: &'a [&'a str]) -> Result<Box<Chosen<'a>>, WordsFault>
     requires { IsNamed (texts_of words.now) (codes "setup") }
     ensures { Chooses (Some commands.print_setup) (texts_of words.now) result }
 {
     let store = read_word(alloc, Name::Setup, words, "store")?;
-    Ok(Chosen::Setup {
-        store: needed(store)?,
-    })
+    boxed(
+        alloc,
+        Chosen::Setup {
+            store: needed(store)?,
+        },
+    )
 }
 
 /// The fault of words that name no command: `clap`'s error, or its text for help or the version;
 /// Missing if `clap` accepts the words.
-fn no_command<'a>(alloc: Global, words: &'a [&'a str]) -> Result<Chosen<'a>, WordsFault>
+fn no_command<'a>(alloc: Global, words: &'a [&'a str]) -> Result<Box<Chosen<'a>>, WordsFault>
     ensures { Chooses None (texts_of words.now) result }
 {
     let line = whole_line(alloc, words)?;

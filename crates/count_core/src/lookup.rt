@@ -11,7 +11,7 @@ use posting_core::Ledger;
 
 /// The answer to a row on its own, as if no earlier row named its thing, with the numbers of its
 /// thing and its place.
-#[derive(Clone, Copy, Debug, PartialEq)]
+#[derive(Clone, Copy)]
 pub(crate) struct Looked {
     pub answer: CountAnswer,
     pub thing: Option<ThingNo>,

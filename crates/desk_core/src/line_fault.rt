@@ -4,7 +4,7 @@ use codes_core::NoMemory;
 use hub_core::HubFault;
 
 /// Why a line isn't taken.
-#[derive(Clone, Copy, Debug, PartialEq, Eq)]
+#[derive(Clone, Copy)]
 pub(crate) enum LineFault {
     /// Memory ran out, or the hub's store failed.
     Hub(HubFault),

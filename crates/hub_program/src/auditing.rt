@@ -30,12 +30,12 @@ use std::thread::Threads;
 pub fn audit_list<'a, T: Threads + Sync, S: Start, W: Write>(
     rt: &HostRuntime,
     threads: &T,
-    wanted: AuditWords<'a>,
+    wanted: &AuditWords<'a>,
     start: S,
     output: &mut W,
     notes: &mut String,
 ) -> Result<ClosedStore<'a>, CommandFault>
-    ensures { IfOk result (λ closed. closed.path ≡ wanted.entry.store) }
+    ensures { IfOk result (λ closed. closed.path ≡ wanted.now.store) }
 {
     let alloc = rt.alloc();
     let day = day_of(alloc, wanted.day)?;
@@ -54,17 +54,17 @@ fn print_audit<T: Threads + Sync, W: Write>(
     threads: &T,
     alloc: Global,
     ledger: &Ledger,
-    wanted: AuditWords<'_>,
+    wanted: &AuditWords<'_>,
     day: Day,
     first: Option<u32>,
     rows: &[CountRow],
     output: &mut W,
     notes: &mut String,
 ) -> Result<(), CommandFault>
-    ensures printed { OnOk result (PrintsAudit ledger.now wanted.entry.station.now day first
-        wanted.entry.sealed rows.now (W.contents output.old) (W.contents output.new)) }
+    ensures printed { OnOk result (PrintsAudit ledger.now wanted.now.station.now day first
+        wanted.now.sealed rows.now (W.contents output.old) (W.contents output.new)) }
     ensures noted { OnOk result (string_bytes notes.new
-        ≡ string_bytes notes.old ++ audit_notes ledger.now wanted.entry.sealed rows.now) }
+        ≡ string_bytes notes.old ++ audit_notes ledger.now wanted.now.sealed rows.now) }
 {
     let station = station_of(alloc, ledger.setup(), wanted.station)?;
     let options = AuditOptions {

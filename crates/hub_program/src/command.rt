@@ -140,7 +140,7 @@ fn perform<
             notes,
         ),
         Chosen::Desk(wanted) => {
-            at_desk(rt, threads, *wanted, start, input, output, errors, notes)
+            at_desk(rt, threads, wanted, start, input, output, errors, notes)
         }
         Chosen::Cards => {
             write_line(output, DESK_CARDS)?;
@@ -166,7 +166,7 @@ fn perform<
                 upto: *upto,
                 check: *check,
             };
-            seal_record(rt, threads, wanted, start, input, output, notes)
+            seal_record(rt, threads, &wanted, start, input, output, notes)
         }
         Chosen::Receipt {
             setup,
@@ -180,7 +180,7 @@ fn perform<
                 entry,
                 upto: *upto,
             };
-            let closed = give_receipt(rt, wanted, start, output)?;
+            let closed = give_receipt(rt, &wanted, start, output)?;
             Ok(Ending::Done(Some(closed)))
         }
         Chosen::CheckReceipt { file, entry, upto } => {
@@ -199,7 +199,7 @@ fn perform<
                 on: *on,
                 upto: *upto,
             };
-            let closed = give_page(rt, threads, wanted, start, output)?;
+            let closed = give_page(rt, threads, &wanted, start, output)?;
             Ok(Ending::Done(Some(closed)))
         }
         Chosen::Export { setup, store, to } => {
@@ -218,7 +218,7 @@ fn perform<
             let closed = listed(rt, store, start, output)?;
             Ok(Ending::Done(Some(closed)))
         }
-        Chosen::Lines(words) => print_lines(rt, *words, start, input, output, notes),
+        Chosen::Lines(words) => print_lines(rt, words, start, input, output, notes),
         Chosen::Check {
             setup,
             counts,
@@ -239,7 +239,7 @@ fn perform<
                 station,
                 by,
             };
-            let closed = fill_gap(rt, wanted, start, output)?;
+            let closed = fill_gap(rt, &wanted, start, output)?;
             Ok(Ending::Done(Some(closed)))
         }
         Chosen::Resend {
@@ -254,14 +254,14 @@ fn perform<
                 station,
                 file,
             };
-            compare_file(rt, wanted, start, input, output, notes)
+            compare_file(rt, &wanted, start, input, output, notes)
         }
         Chosen::Audit(words) => {
-            let closed = audit_list(rt, threads, *words, start, output, notes)?;
+            let closed = audit_list(rt, threads, words, start, output, notes)?;
             Ok(Ending::Done(Some(closed)))
         }
         Chosen::Report(report, asked) => reported(
-            rt, threads, *report, *asked, start, input, output, notes,
+            rt, threads, report, asked, start, input, output, notes,
         ),
         Chosen::Help { topic } => Ok(Ending::Printed(help(rt.alloc(), *topic, output, errors))),
     }

@@ -42,14 +42,14 @@ pub fn at_desk<
 >(
     rt: &HostRuntime,
     threads: &T,
-    wanted: DeskWords<'a>,
+    wanted: &DeskWords<'a>,
     start: S,
     input: &mut R,
     output: &mut W,
     errors: &mut E,
     notes: &mut String,
 ) -> Result<Ending<'a>, CommandFault>
-    ensures { IfOk result (λ ending. kept_in ending ≡ Some wanted.entry.store.now) }
+    ensures { IfOk result (λ ending. kept_in ending ≡ Some wanted.now.store.now) }
 {
     let day = day_if(rt.alloc(), wanted.day)?;
     refuse_log(rt, wanted)?;
@@ -76,7 +76,7 @@ fn take_lines<
 >(
     rt: &HostRuntime,
     threads: &T,
-    wanted: DeskWords<'a>,
+    wanted: &DeskWords<'a>,
     setup: Setup,
     labels: &Labels,
     day: Option<Day>,
@@ -86,7 +86,7 @@ fn take_lines<
     errors: &mut E,
     notes: &mut String,
 ) -> Result<Ending<'a>, CommandFault>
-    ensures { IfOk result (λ ending. kept_in ending ≡ Some wanted.entry.store.now) }
+    ensures { IfOk result (λ ending. kept_in ending ≡ Some wanted.now.store.now) }
 {
     let bench = match bench_of(rt.alloc(), &setup, labels, wanted) {
         Ok(bench) => bench,
@@ -121,13 +121,13 @@ fn bench_of<'b>(
     alloc: Global,
     setup: &Setup,
     labels: &'b Labels,
-    wanted: DeskWords<'_>,
+    wanted: &DeskWords<'_>,
 ) -> Result<Bench<'b>, CommandFault>
     ensures found { MatchResult result
-        (λ bench. find_station setup.now wanted.entry.station.now ≡ Some bench.station)
-        (λ _. find_station setup.now wanted.entry.station.now ≡ None) }
+        (λ bench. find_station setup.now wanted.now.station.now ≡ Some bench.station)
+        (λ _. find_station setup.now wanted.now.station.now ≡ None) }
     ensures within { IfOk result (λ bench. bench.station < length setup.now.stations) }
-    ensures bell { IfOk result (λ bench. bench.has_bell ≡ wanted.entry.bell) }
+    ensures bell { IfOk result (λ bench. bench.has_bell ≡ wanted.now.bell) }
     ensures labels { IfOk result (λ bench. bench.labels.now ≡ labels.now) }
 {
     let station = station_of(alloc, setup, wanted.station)?;
@@ -140,7 +140,7 @@ fn bench_of<'b>(
 }
 
 /// The fault, with the advice on the desk's own station, or on its log, if the fault is about it.
-fn with_advice(alloc: Global, fault: CommandFault, wanted: DeskWords<'_>) -> CommandFault {
+fn with_advice(alloc: Global, fault: CommandFault, wanted: &DeskWords<'_>) -> CommandFault {
     match fault {
         CommandFault::Station(refusal, _) => {
             CommandFault::Station(refusal, on_station(alloc, wanted.station, refusal))

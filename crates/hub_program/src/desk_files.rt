@@ -22,7 +22,7 @@ pub fn no_log() -> Option<File> {
 }
 
 /// Fails with Log if the log is one of the desk's other files: lines appended to it would spoil it.
-pub fn refuse_log(rt: &HostRuntime, wanted: DeskWords<'_>) -> Result<(), CommandFault> {
+pub fn refuse_log(rt: &HostRuntime, wanted: &DeskWords<'_>) -> Result<(), CommandFault> {
     let Some(log) = wanted.log else {
         return Ok(());
     };

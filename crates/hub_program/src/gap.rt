@@ -32,11 +32,11 @@ pub struct GapWords<'a> {
 /// instead of any of them.
 pub fn fill_gap<'a, S: Start, W: Write>(
     rt: &HostRuntime,
-    wanted: GapWords<'a>,
+    wanted: &GapWords<'a>,
     start: S,
     output: &mut W,
 ) -> Result<ClosedStore<'a>, CommandFault>
-    ensures { IfOk result (λ closed. closed.path ≡ wanted.entry.store) }
+    ensures { IfOk result (λ closed. closed.path ≡ wanted.now.store) }
 {
     let alloc = rt.alloc();
     let by = person_of(alloc, wanted.by)?;

@@ -35,11 +35,11 @@ pub struct PageWords<'a> {
 pub fn give_page<'a, T: Threads + Sync, S: Start, W: Write>(
     rt: &HostRuntime,
     threads: &T,
-    wanted: PageWords<'a>,
+    wanted: &PageWords<'a>,
     start: S,
     output: &mut W,
 ) -> Result<ClosedStore<'a>, CommandFault>
-    ensures { IfOk result (λ closed. closed.path ≡ wanted.entry.store) }
+    ensures { IfOk result (λ closed. closed.path ≡ wanted.now.store) }
 {
     let on = day_if(rt.alloc(), wanted.on)?;
     let upto = number_if(rt.alloc(), wanted.upto)?;

@@ -27,17 +27,17 @@ pub fn reported<
 >(
     rt: &HostRuntime,
     threads: &T,
-    report: Report<'a>,
-    asked: Asked<'_>,
+    report: &Report<'a>,
+    asked: &Asked<'_>,
     start: S,
     input: &mut R,
     output: &mut W,
     notes: &mut String,
 ) -> Result<Ending<'a>, CommandFault>
-    ensures { IfOk result (λ ending. kept_in ending ≡ Some report.entry.store.now) }
+    ensures { IfOk result (λ ending. kept_in ending ≡ Some report.now.store.now) }
 {
     let upto = number_if(rt.alloc(), report.upto)?;
-    let (setup, question) = read_question(rt, report.setup, asked)?;
+    let (setup, question) = read_question(rt, report.setup, *asked)?;
     let work = Work::Print {
         question,
         form: form_of(report.format),

@@ -34,13 +34,13 @@ pub struct ResendWords<'a> {
 /// list the station; WriteFailed. NoMemory can come instead of any of them.
 pub fn compare_file<'a, S: Start, R: BufRead, W: Write>(
     rt: &HostRuntime,
-    wanted: ResendWords<'a>,
+    wanted: &ResendWords<'a>,
     start: S,
     input: &mut R,
     output: &mut W,
     notes: &mut String,
 ) -> Result<Ending<'a>, CommandFault>
-    ensures { IfOk result (λ ending. kept_in ending ≡ Some wanted.entry.store.now) }
+    ensures { IfOk result (λ ending. kept_in ending ≡ Some wanted.now.store.now) }
 {
     let bytes = read_named(rt, wanted.file, input)?;
     let (ledger, closed) = read_record(rt, wanted.setup, wanted.store, start)?;

@@ -52,13 +52,13 @@ pub struct ReceiptWords<'a> {
 pub fn seal_record<'a, T: Threads + Sync, S: Start, R: BufRead, W: Write>(
     rt: &HostRuntime,
     threads: &T,
-    wanted: SealWords<'a>,
+    wanted: &SealWords<'a>,
     start: S,
     input: &mut R,
     output: &mut W,
     notes: &mut String,
 ) -> Result<Ending<'a>, CommandFault>
-    ensures { IfOk result (λ ending. kept_in ending ≡ Some wanted.entry.store.now) }
+    ensures { IfOk result (λ ending. kept_in ending ≡ Some wanted.now.store.now) }
 {
     if let Some(file) = wanted.check {
         return compare_seals(rt, threads, wanted, file, start, input, output, notes);
@@ -73,14 +73,14 @@ pub fn seal_record<'a, T: Threads + Sync, S: Start, R: BufRead, W: Write>(
 fn compare_seals<'a, T: Threads + Sync, S: Start, R: BufRead, W: Write>(
     rt: &HostRuntime,
     threads: &T,
-    wanted: SealWords<'a>,
+    wanted: &SealWords<'a>,
     file: &str,
     start: S,
     input: &mut R,
     output: &mut W,
     notes: &mut String,
 ) -> Result<Ending<'a>, CommandFault>
-    ensures { IfOk result (λ ending. kept_in ending ≡ Some wanted.entry.store.now) }
+    ensures { IfOk result (λ ending. kept_in ending ≡ Some wanted.now.store.now) }
 {
     if wanted.upto.is_some() {
         return Err(CommandFault::Words(on_check_alone(rt.alloc(), "--upto")));
@@ -108,11 +108,11 @@ fn compare_seals<'a, T: Threads + Sync, S: Start, R: BufRead, W: Write>(
 /// them.
 pub fn give_receipt<'a, S: Start, W: Write>(
     rt: &HostRuntime,
-    wanted: ReceiptWords<'a>,
+    wanted: &ReceiptWords<'a>,
     start: S,
     output: &mut W,
 ) -> Result<ClosedStore<'a>, CommandFault>
-    ensures { IfOk result (λ closed. closed.path ≡ wanted.entry.store) }
+    ensures { IfOk result (λ closed. closed.path ≡ wanted.now.store) }
 {
     let entry = entry_of(rt.alloc(), wanted.entry)?;
     let upto = entry_if(rt.alloc(), wanted.upto)?;

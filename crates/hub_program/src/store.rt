@@ -5,6 +5,7 @@
 ghost use Rattle.std.specs.Prelude.{◌≡◌, IfOk, IfSome, OnOk, IsTrue, option_map};
 ghost use Rattle.command_words.specs.Words.{text_of};
 ghost use Rattle.sqlite.specs.Files.{file_state};
+ghost use Rattle.sqlite.specs.Held.{state};
 ghost use Rattle.sqlite.specs.WalFiles.{image_at};
 ghost use Rattle.sqlite.specs.WalReads.{AreClean};
 ghost use Rattle.register_sql.specs.Runs.{IsCopied};
@@ -170,10 +171,11 @@ fn with_record<'a, D: Disk + Drop>(
     ensures same { IfOk result (λ r. Comes (in_store (file_state store.entry.register.conn))
         (in_store (file_state r.register.conn)) AreSame) }
 {
-    let fault = match store.register.is_new(rt.alloc()) {
-        Ok(is_new) if !is_new || begins != Begins::Nothing => {
+    let fault = match newness_and_growths(rt.alloc(), &mut store.register) {
+        Ok((is_new, growths)) if !is_new || begins != Begins::Nothing => {
             store.is_new = is_new;
-            return with_growths(rt, store);
+            store.growths = growths;
+            return Ok(store);
         }
         Ok(_) => CommandFault::Store(StoreFault::Store, on_no_record(rt.alloc(), store.path)),
         Err(fault) => CommandFault::from(fault),
@@ -181,22 +183,17 @@ fn with_record<'a, D: Disk + Drop>(
     Err(store.closed_with(rt, fault))
 }
 
-/// Reads how the setup of the store grew.
-fn with_growths<'a, D: Disk + Drop>(
-    rt: &HostRuntime,
-    mut store: OpenStore<'a, D>,
-) -> Result<OpenStore<'a, D>, CommandFault>
-    ensures named { IfOk result (λ r. r.path ≡ store.entry.path) }
-    ensures same { IfOk result (λ r. Comes (in_store (file_state store.entry.register.conn))
-        (in_store (file_state r.register.conn)) AreSame) }
+/// Returns whether the store is new, and how its setup grew, the newest growth first.
+fn newness_and_growths<S: Alter>(
+    alloc: Global,
+    register: &mut SqlRegister<S>,
+) -> Result<(bool, Vec<Growth>), StoreFault>
+    ensures { Comes (in_store (state S.Store register.old.conn))
+        (in_store (state S.Store register.new.conn)) AreSame }
 {
-    match store.register.growths(rt.alloc()) {
-        Ok(growths) => {
-            store.growths = growths;
-            Ok(store)
-        }
-        Err(fault) => Err(store.closed_with(rt, CommandFault::from(fault))),
-    }
+    let is_new = register.is_new(alloc)?;
+    let growths = register.growths(alloc)?;
+    Ok((is_new, growths))
 }
 
 /// Opens the store, migrates it, and closes it. Faults, in this order: those of opening it, of

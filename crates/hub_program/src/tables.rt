@@ -45,13 +45,13 @@ use table_lines::{
 /// NoMemory can come instead of any of them.
 pub fn print_lines<'a, S: Start, R: BufRead, W: Write>(
     rt: &HostRuntime,
-    wanted: TableWords<'a>,
+    wanted: &TableWords<'a>,
     start: S,
     input: &mut R,
     output: &mut W,
     notes: &mut String,
 ) -> Result<Ending<'a>, CommandFault>
-    ensures { IfOk result (λ ending. kept_in ending ≡ text_of wanted.entry.store) }
+    ensures { IfOk result (λ ending. kept_in ending ≡ text_of wanted.now.store) }
 {
     let alloc = rt.alloc();
     let dates = dates_of(alloc, wanted.dates)?;
@@ -95,7 +95,7 @@ struct GivenTable {
 fn files_of<R: BufRead>(
     rt: &HostRuntime,
     setup: &Setup,
-    wanted: TableWords<'_>,
+    wanted: &TableWords<'_>,
     input: &mut R,
 ) -> Result<(Labels, Vec<u8>), CommandFault> {
     let labels = read_labels(rt, setup, wanted.labels)?;
@@ -125,13 +125,13 @@ fn dates_of(alloc: Global, dates: Option<&str>) -> Result<DateOrder, CommandFaul
 fn print_unjudged<W: Write>(
     alloc: Global,
     setup: &Setup,
-    wanted: TableWords<'_>,
+    wanted: &TableWords<'_>,
     table: &GivenTable,
     output: &mut W,
     notes: &mut String,
 ) -> Result<(), CommandFault>
     ensures { OnOk result ((lines : SheetLines)
-        × PrintsLines setup.now wanted.entry table.now (unwrap_or table.now.first 1) lines
+        × PrintsLines setup.now wanted.now table.now (unwrap_or table.now.first 1) lines
         (W.contents output.old) (W.contents output.new)) }
 {
     let station = station_of(alloc, setup, wanted.station)?;
@@ -147,12 +147,12 @@ fn print_unjudged<W: Write>(
 fn print_judged<W: Write>(
     alloc: Global,
     ledger: &mut Ledger,
-    wanted: TableWords<'_>,
+    wanted: &TableWords<'_>,
     table: &GivenTable,
     output: &mut W,
     notes: &mut String,
 ) -> Result<(), CommandFault>
-    ensures { OnOk result (PrintsTried ledger.old wanted.entry table.now
+    ensures { OnOk result (PrintsTried ledger.old wanted.now table.now
         (W.contents output.old) (W.contents output.new)) }
 {
     let station = station_of(alloc, ledger.setup(), wanted.station)?;
@@ -194,22 +194,14 @@ fn sent_text(
 /// table.
 fn messages_of(
     alloc: Global,
-    wanted: TableWords<'_>,
+    wanted: &TableWords<'_>,
     table: &GivenTable,
     first: u32,
 ) -> Result<SheetLines, CommandFault>
-    ensures { IfOk result (IsLines (options_of wanted.entry table.now first) table.now.labels
+    ensures { IfOk result (IsLines (options_of wanted.now table.now first) table.now.labels
         table.now.bytes.items) }
 {
-    let options = TableOptions {
-        kind: text_if(alloc, wanted.kind)?,
-        day: text_if(alloc, wanted.day)?,
-        place: text_if(alloc, wanted.place)?,
-        loan: text_if(alloc, wanted.loan)?,
-        by: text_if(alloc, wanted.by)?,
-        dates: table.dates,
-        first,
-    };
+    let options = options_of(alloc, wanted, table, first)?;
     match read_lines(alloc, &options, &table.labels, &table.bytes) {
         Ok(lines) => Ok(lines),
         Err(LinesFault::NoMemory) => Err(CommandFault::NoMemory),
@@ -219,6 +211,26 @@ fn messages_of(
         }
         Err(fault) => Err(CommandFault::Faults(faults_and_help(alloc, &fault)?)),
     }
+}
+
+/// How the rows of the table are read.
+fn options_of(
+    alloc: Global,
+    wanted: &TableWords<'_>,
+    table: &GivenTable,
+    first: u32,
+) -> Result<TableOptions, CommandFault>
+    ensures { IfOk result (λ options. options ≡ options_of wanted.now table.now first) }
+{
+    Ok(TableOptions {
+        kind: text_if(alloc, wanted.kind)?,
+        day: text_if(alloc, wanted.day)?,
+        place: text_if(alloc, wanted.place)?,
+        loan: text_if(alloc, wanted.loan)?,
+        by: text_if(alloc, wanted.by)?,
+        dates: table.dates,
+        first,
+    })
 }
 
 /// The lines of all faults of a table, and a `help:` line if there is help on a cell.

@@ -6,7 +6,7 @@ ghost use Rattle.label_core.specs.LabelRows.{column, columns_of, field, is_word}
 use crate::text::trim;
 
 /// The indexes of the columns of labels and codes.
-#[derive(Clone, Copy, Debug)]
+#[derive(Clone, Copy)]
 pub(crate) struct Columns {
     pub label: usize,
     pub code: usize,

@@ -13,7 +13,7 @@ use csv::ByteRecord;
 
 /// The kind of item that a row lists, by the word in its first field. `box` is a container, `own`
 /// an own object, and `lent` a borrowed one.
-#[derive(Clone, Copy, Debug, PartialEq, Eq)]
+#[derive(Clone, Copy)]
 pub(crate) enum RowKind {
     Station,
     Place,
@@ -24,7 +24,7 @@ pub(crate) enum RowKind {
 
 /// The item that a row lists: a station; a place, and whether it is inside the museum; or a thing,
 /// with its normal location if it is an own object.
-#[derive(Clone, Copy, Debug)]
+#[derive(Clone, Copy)]
 pub(crate) enum SetupRow {
     Station(StationName),
     Place(PlaceCode, bool),

@@ -8,7 +8,7 @@ use std::marker::Model;
 
 /// A station's name: 1 to 16 of `A` to `Z`, `a` to `z`, `0` to `9` and the dash. Contracts see it
 /// as its bytes.
-#[derive(Clone, Copy, Debug, PartialEq, Eq, Hash)]
+#[derive(Clone, Copy, PartialEq, Eq, Hash)]
 pub(crate) struct StationName {
     spelling: Spelling<16>,
 }

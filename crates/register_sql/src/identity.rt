@@ -24,7 +24,7 @@ use sqlite_value::value::ValueRef;
 use std::alloc::Global;
 
 /// The result of checking the rows of `meta`.
-#[derive(Clone, Copy, Debug, PartialEq, Eq)]
+#[derive(Clone, Copy)]
 pub(crate) enum Identity {
     /// There are none: the store is new.
     New,

@@ -9,7 +9,7 @@ use crate::identity::{has_other, is_meta};
 use sqlite::Row;
 
 /// The version of a store.
-#[derive(Clone, Copy, Debug, PartialEq, Eq)]
+#[derive(Clone, Copy)]
 pub(crate) enum Age {
     /// `meta` has no rows: the store is new.
     New,

@@ -20,7 +20,7 @@ const MAX_DEPTH: usize = 127;
 const MEMBERS: usize = 8;
 
 /// Why a text isn't read.
-#[derive(Clone, Copy, Debug, PartialEq, Eq)]
+#[derive(Clone, Copy)]
 pub(crate) enum Unread {
     /// It isn't plain, or it isn't JSON.
     Unusual,

@@ -14,7 +14,7 @@ use std::io::{BufRead, ErrorKind, Write};
 pub const MOST_KEPT: usize = 16_386;
 
 /// Where a piece of a line ends: at the line feed, at the end of the input, or before either.
-#[derive(Clone, Copy, Debug, PartialEq, Eq)]
+#[derive(Clone, Copy)]
 pub(crate) enum End {
     Feed,
     Input,

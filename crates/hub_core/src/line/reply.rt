@@ -28,7 +28,7 @@ use std::alloc::Global;
 pub const LONGEST_LINE: usize = 16_384;
 
 /// The reply to a line, as a value.
-#[derive(Clone, Copy, Debug, PartialEq, Eq)]
+#[derive(Clone, Copy)]
 pub(crate) enum Reply {
     /// No reply: the line is empty.
     Empty,
