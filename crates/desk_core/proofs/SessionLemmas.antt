@@ -20,7 +20,7 @@ use Rattle.hub_core.specs.StandsFor.{State, StandsFor}
 use Rattle.hub_core.proofs.FeedLemmas.{end_after}
 use Rattle.hub_core.proofs.Written.{appends_kept}
 use Rattle.desk_core.specs.declared.desk.Desk.{Desk}
-use Rattle.label_core.specs.Labels.{Label, code_for}
+use Rattle.table_core.specs.Labels.{Label, code_for}
 use Rattle.desk_core.specs.declared.bench.Bench.{Bench}
 use Rattle.desk_core.specs.declared.line_fault.LineFault.{LineFault}
 use Rattle.desk_core.specs.declared.line_fault.LineFault.TheVariants.{Hub, Log}

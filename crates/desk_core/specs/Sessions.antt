@@ -15,7 +15,7 @@ use Rattle.hub_core.specs.Reading.{HasNoFeed, feed_if}
 use Rattle.hub_core.specs.StandsFor.{State, StandsFor, TakesSome}
 use Rattle.desk_core.specs.declared.desk.Desk.{Desk}
 use Rattle.desk_core.specs.declared.said.Said.{Said}
-use Rattle.label_core.specs.Labels.{Label, code_for}
+use Rattle.table_core.specs.Labels.{Label, code_for}
 use Rattle.desk_core.specs.declared.bench.Bench.{Bench}
 use Rattle.desk_core.specs.declared.desk_fault.DeskFault.{DeskFault}
 use Rattle.desk_core.specs.declared.desk_fault.DeskFault.TheVariants.{LogFailed, NoMemory}

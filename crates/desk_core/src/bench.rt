@@ -2,10 +2,10 @@
 ghost use Rattle.std.specs.Prelude.{IfOk, map, string_bytes};
 
 use codes_core::NoMemory;
-use label_core::Labels;
 use nest_core::StationNo;
 use reports::Question;
 use std::alloc::Global;
+use table_core::Labels;
 
 /// A desk of one station.
 #[derive(Clone, Copy)]

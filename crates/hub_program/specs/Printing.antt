@@ -15,9 +15,9 @@ use Rattle.nest_core.specs.Museum.{Museum, find_station, station_name_of}
 use Rattle.posting_core.specs.Book.{Book}
 use Rattle.line_files.specs.Gaps.{gap_in, next_number}
 use Rattle.table_core.specs.declared.options.TableOptions.{TableOptions}
-use Rattle.table_lines.specs.LineTexts.{lines_text}
-use Rattle.table_lines.specs.SheetLines.{IsLines}
-use Rattle.table_lines.specs.declared.sheet_lines.SheetLines.{SheetLines}
+use Rattle.table_core.specs.LineTexts.{lines_text}
+use Rattle.table_core.specs.SheetLines.{IsLines}
+use Rattle.table_core.specs.declared.printed.sheet_lines.SheetLines.{SheetLines}
 
 -- The number of the first message of a file: the given one, or the next that the station has to
 -- send.

@@ -1,13 +1,12 @@
 //! The `help:` lines about files: the cause of a fault, and what the user can do.
 
 use codes_core::add_quoted;
-use label_core::LabelFault;
 use line_files::GapFault;
 use posting_core::EntryNo;
 use station_core::Refusal;
 use std::alloc::{AllocError, Global};
 use std::io::ErrorKind;
-use table_core::SheetFault;
+use table_core::{LabelFault, SheetFault};
 
 /// The text of a `help:` line. None if nothing more is known, or if there is no memory for the
 /// text.

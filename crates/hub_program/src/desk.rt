@@ -16,13 +16,13 @@ use codes_core::Day;
 use command_words::{DESK_HELP, DeskWords};
 use desk_core::Bench;
 use hub_core::Tally;
-use label_core::Labels;
 use nest_core::Setup;
 use sqlite::Start;
 use std::alloc::Global;
 use std::io::{BufRead, Write};
 use std::sync::Wait;
 use std::thread::Threads;
+use table_core::Labels;
 use work_core::Work;
 
 /// Takes the lines of the input at a desk, and writes the answers to the output. The note about a

@@ -1,20 +1,19 @@
 //! The files of a desk: its log, and its labels.
 ghost use Rattle.std.specs.Prelude.{◌≡◌, None, IfOk, OnOk};
-ghost use Rattle.label_core.specs.LabelRows.{label_fault, labels_of};
+ghost use Rattle.table_core.specs.LabelRows.{label_fault, labels_of};
 ghost use Rattle.table_core.specs.Sheets.{sheet_rows};
 
 use crate::advice::{on_labels, on_log, on_sheet, on_taken_log};
 use crate::fault::{CommandFault, SheetFile};
 use crate::files::{are_same, read_file};
 use command_words::DeskWords;
-use label_core::{LabelFault, Labels};
 use nest_core::Setup;
 use std::alloc::Global;
 use std::fs::{File, OpenFile, OpenOptions};
 use std::io;
 use std::io::Write;
 use std::os::unix::fs::FileExt;
-use table_core::{SheetFault, read_sheet};
+use table_core::{LabelFault, Labels, SheetFault, read_sheet};
 
 /// No log, for a command that writes none.
 pub fn no_log() -> Option<File> {

@@ -5,7 +5,6 @@ use crate::growth_fault::{GrowthFault, write_growth_fault};
 use crate::list_fault::ListFault;
 use codes_core::{CodeFault, NoMemory, write_on_one_line};
 use hub_core::RunFault;
-use label_core::LabelFault;
 use line_files::GapFault;
 use nest_core::SetupFault;
 use register_store::StoreFault;
@@ -14,7 +13,7 @@ use station_core::Refusal;
 use std::alloc::{AllocError, AllocFailed};
 use std::io;
 use std::io::Write;
-use table_core::SheetFault;
+use table_core::{LabelFault, SheetFault};
 use work_core::WorkFault;
 
 /// Why a command stops.

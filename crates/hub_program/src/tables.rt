@@ -5,11 +5,11 @@ ghost use Rattle.command_words.specs.Words.{text_of};
 ghost use Rattle.hub_program.specs.Places.{kept_in};
 ghost use Rattle.hub_program.specs.Printing.{PrintsLines, PrintsTried, options_of, text_or};
 ghost use Rattle.nest_core.specs.Museum.{station_name_of};
-ghost use Rattle.table_lines.specs.FaultTexts.{faults_text};
-ghost use Rattle.table_lines.specs.HelpLines.{help_text};
-ghost use Rattle.table_lines.specs.LineTexts.{lines_text};
-ghost use Rattle.table_lines.specs.SheetLines.{IsLines};
-ghost use Rattle.table_lines.specs.declared.sheet_lines.SheetLines.{SheetLines};
+ghost use Rattle.table_core.specs.FaultTexts.{faults_text};
+ghost use Rattle.table_core.specs.HelpLines.{help_text};
+ghost use Rattle.table_core.specs.LineTexts.{lines_text};
+ghost use Rattle.table_core.specs.SheetLines.{IsLines};
+ghost use Rattle.table_core.specs.declared.printed.sheet_lines.SheetLines.{SheetLines};
 
 use crate::advice::on_sheet;
 use crate::desk_files::read_labels;
@@ -22,16 +22,15 @@ use crate::numbers::{first_if, first_of};
 use crate::station::station_of;
 use codes_core::NoMemory;
 use command_words::TableWords;
-use label_core::Labels;
 use line_files::try_lines;
 use nest_core::{Setup, StationNo};
 use posting_core::Ledger;
 use sqlite::Start;
 use std::alloc::Global;
 use std::io::{BufRead, Write};
-use table_core::{CellText, DateOrder, TableLine, TableOptions};
-use table_lines::{
-    LinesFault, SheetLines, faults_text, help_text, lines_text, notes_text, read_lines,
+use table_core::{
+    CellText, DateOrder, Labels, LinesFault, SheetLines, TableLine, TableOptions, faults_text,
+    help_text, lines_text, notes_text, read_lines,
 };
 
 /// Prints a line for each row of a table, and adds the notes. With a store it also judges each

@@ -7,7 +7,8 @@ use Rattle.std.specs.List.{cons_option, filter_map, find}
 use Rattle.std.proofs.lemmas.List.{take_more, at_drop_more}
 use Rattle.std.proofs.lemmas.List.Elements.{filter_map-append}
 
-as_list : {Y : Type 0} (o : Option Y) → cons_option o [] ≡ option_to_list o
+-- an element, if there is one, as a list
+pub as_list : {Y : Type 0} (o : Option Y) → cons_option o [] ≡ option_to_list o
 as_list None = refl
 as_list (Some y) = refl
 

@@ -13,3 +13,14 @@ pub mod CsvRows
 pub mod Rows
 pub mod Tables
 mod Worked
+pub mod KeptLabels
+pub mod ListedCodes
+pub mod LabelFields
+pub mod LabelReading
+mod WorkedLabels
+pub mod Coded
+pub mod Uncoded
+pub mod GrowingText
+pub mod RowMessages
+pub mod Hiding
+mod WorkedTexts

@@ -8,3 +8,13 @@ pub mod Tables
 pub mod Marks
 pub mod Sheets
 pub mod SheetFaults
+pub mod Labels
+pub mod LabelRows
+pub mod LabelFaults
+pub mod LinesFaults
+pub mod SheetLines
+pub mod LineTexts
+pub mod FaultTexts
+pub mod HelpLines
+pub mod NoteTexts
+pub mod Laws

@@ -53,7 +53,8 @@ fn field<'a>(fields: &'a [String], place: Option<usize>) -> &'a str
     }
 }
 
-fn field_at<'a>(fields: &'a [String], i: usize) -> &'a str
+/// The field at this index. Empty if there is none.
+pub(crate) fn field_at<'a>(fields: &'a [String], i: usize) -> &'a str
     ensures { result.now ≡ slice_index_or (map string_bytes fields.now) i [] }
 {
     if i < fields.len() {

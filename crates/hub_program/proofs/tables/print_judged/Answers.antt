@@ -1,7 +1,7 @@
 use Rattle.std.proofs.Common.{rules, ◌≡◌, Some, sym, ap, subst, ◌∙◌}
 use Rattle.std.specs.Io.KnownBytes.{Appends}
 use Rattle.nest_core.specs.Museum.{station_name_of}
-use Rattle.table_lines.specs.LineTexts.{lines_text}
+use Rattle.table_core.specs.LineTexts.{lines_text}
 use Rattle.hub_program.proofs.tables.print_judged.Goals as goal
 use Rattle.hub_program.proofs.tables.print_judged.Goals.{else-wanted-2-via-else-wanted-2}
 use Rattle.hub_program.proofs.tables.print_judged.Goals.{else-wanted-2-via-then-wanted-2+else-not-trial}

@@ -1,5 +1,0 @@
-pub mod Kept
-pub mod Listed
-pub mod Fields
-pub mod Reading
-mod Worked

@@ -1,3 +1,0 @@
-pub mod Labels
-pub mod LabelRows
-pub mod LabelFaults

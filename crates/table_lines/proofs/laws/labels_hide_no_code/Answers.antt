@@ -1,5 +1,0 @@
-use Rattle.table_lines.proofs.Hiding.{hide_no_code}
-use Rattle.table_lines.proofs.laws.labels_hide_no_code.Goals as goal
-
-pub returns : goal.returns
-returns c = hide_no_code
