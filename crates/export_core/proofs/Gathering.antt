@@ -7,8 +7,8 @@ use Rattle.posting_core.specs.Book.{Book, changes_of}
 use Rattle.posting_core.specs.Past.{upto}
 use Rattle.posting_core.specs.declared.entry.Changes.{Changes}
 use Rattle.posting_core.specs.declared.entry.Entry.{Entry}
-use Rattle.section_core.specs.EntryChanges.{changes_at}
-use Rattle.section_core.proofs.Ranges.{flat_more}
+use Rattle.reports.specs.EntryChanges.{changes_at}
+use Rattle.reports.proofs.Ranges.{flat_more}
 use Rattle.export_core.specs.declared.entries.EntryRows.{EntryRows}
 use Rattle.export_core.specs.Entries.{line_texts, lines_at, message_at, message_row}
 use Rattle.export_core.specs.Entries.{movement_rows, movements_at}

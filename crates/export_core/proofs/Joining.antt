@@ -4,8 +4,8 @@ use Rattle.std.proofs.Common.{take}
 use Rattle.std.specs.List.{flat_map, join_by, slice_get}
 use Rattle.std.specs.Option.{option_to_list}
 use Rattle.std.proofs.lemmas.List.{append_assoc, append-nil}
-use Rattle.section_core.proofs.Joins.{joined_alike}
-use Rattle.section_core.proofs.WrittenText.{lines_more}
+use Rattle.reports.proofs.Joins.{joined_alike}
+use Rattle.reports.proofs.WrittenText.{lines_more}
 
 -- the rows of one more element, after those that were there
 pub one_more : {X Y : Type 0} (f : X → List Y) (xs : List X) (i : ℕ) (old before after : List Y)

@@ -20,7 +20,7 @@ use Rattle.register_store.specs.MessageText.{body_of}
 use Rattle.reports.specs.Causes.{sentence}
 use Rattle.reports.specs.Cells.{Cell, joined_words, number, text, text_if}
 use Rattle.reports.specs.Texts.{place_text, station_text, thing_text}
-use Rattle.section_core.specs.Values.{word_if}
+use Rattle.reports.specs.Values.{word_if}
 use Rattle.export_core.specs.Literals.{quoted}
 use Rattle.export_core.specs.Statements.{row}
 

@@ -6,7 +6,7 @@ use Rattle.posting_core.specs.Agreements.{Agreement, agreement}
 use Rattle.posting_core.specs.Book.{Book, last_day_in, loans_in}
 use Rattle.reports.specs.Cells.{Cell, day_if, nothing, text}
 use Rattle.reports.specs.Loans.{stage_cell, state_cell}
-use Rattle.section_core.specs.Terms.{is_out}
+use Rattle.reports.specs.Terms.{is_out}
 use Rattle.export_core.specs.Literals.{quoted}
 use Rattle.export_core.specs.Statements.{row}
 

@@ -11,7 +11,7 @@ use Rattle.nest_core.specs.Museum.{Museum, kind_of, normal_of}
 use Rattle.posting_core.specs.Book.{Book, chain_in, place_in, spots_in}
 use Rattle.reports.specs.Cells.{Cell, day_if, nothing, text, text_if}
 use Rattle.reports.specs.Texts.{place_text, place_text_if, thing_text}
-use Rattle.section_core.specs.Values.{codes_text, word_if}
+use Rattle.reports.specs.Values.{codes_text, word_if}
 use Rattle.export_core.specs.Statements.{row}
 
 abbrev pub has_dash : List ℕ → Bool

@@ -5,7 +5,7 @@ ghost use Rattle.std.specs.List.{flat_map};
 ghost use Rattle.posting_core.specs.Book.{chain_in};
 ghost use Rattle.reports.specs.Cells.{text_if};
 ghost use Rattle.reports.specs.Texts.{thing_text};
-ghost use Rattle.section_core.specs.Values.{value_of};
+ghost use Rattle.reports.specs.Values.{value_of};
 ghost use Rattle.export_core.specs.Entries.{crossing_text, entry_column, line_text, movement_row};
 ghost use Rattle.export_core.specs.Entries.{movement_values};
 ghost use Rattle.export_core.specs.Statements.{row};
@@ -15,7 +15,7 @@ use crate::statements::row;
 use codes_core::NoMemory;
 use nest_core::{Setup, ThingNo};
 use posting_core::{EntryNo, Ledger, LineStage, NewLine, NewSpot, PostedEntry};
-use section_core::{Value, place_value, station_name, thing_value};
+use reports::sections::{Value, place_value, station_name, thing_value};
 use std::alloc::Global;
 
 /// Adds the rows of the new locations of things, by the record after the entry. Fails with

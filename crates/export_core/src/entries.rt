@@ -13,7 +13,7 @@ use codes_core::NoMemory;
 use posting_core::{Changes, Ledger, PostedEntry, kind_name, past};
 use register_store::message_text;
 use reports::cause_text;
-use section_core::{Value, entry_at, post_planned, station_name, word_if};
+use reports::sections::{Value, entry_at, post_planned, station_name, word_if};
 use std::alloc::Global;
 
 /// What the entries of a record add to its script.

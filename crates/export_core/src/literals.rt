@@ -2,11 +2,11 @@
 ghost use Rattle.std.specs.Prelude.{◌≡◌, ◌++◌, IfOk, OnOk, string_bytes};
 ghost use Rattle.std.specs.Char.{encode_utf8};
 ghost use Rattle.codes_core.specs.Day.{day_text};
-ghost use Rattle.section_core.specs.Values.{value_of};
+ghost use Rattle.reports.specs.Values.{value_of};
 ghost use Rattle.export_core.specs.Literals.{doubled, literal, quoted};
 
 use codes_core::{Day, NoMemory};
-use section_core::Value;
+use reports::sections::Value;
 use std::alloc::{AllocError, Global};
 
 /// Returns the value as SQL. Fails with `NoMemory`.

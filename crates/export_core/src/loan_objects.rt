@@ -1,7 +1,7 @@
 //! The rows of the table `loan_object`, and the loans of the things.
 ghost use Rattle.std.specs.Prelude.{◌≡◌, ◌++◌, IfOk, OnOk, map, string_bytes};
 ghost use Rattle.std.specs.List.{flat_map};
-ghost use Rattle.section_core.specs.Terms.{agreement_with};
+ghost use Rattle.reports.specs.Terms.{agreement_with};
 ghost use Rattle.export_core.specs.Loans.{all_lent, all_object_rows, lent_if, lent_text};
 ghost use Rattle.export_core.specs.Loans.{lent_texts, object_row, object_rows};
 
@@ -9,7 +9,7 @@ use crate::literals::literal;
 use crate::statements::row;
 use codes_core::{LoanCode, NoMemory, ThingCode};
 use posting_core::Ledger;
-use section_core::{Terms, Value, agreed_terms, is_out, stage_if, stage_of};
+use reports::sections::{Terms, Value, agreed_terms, is_out, stage_if, stage_of};
 use std::alloc::Global;
 
 /// Returns the rows of the objects of all agreed loans. Fails with `NoMemory`.

@@ -1,13 +1,13 @@
 //! The rows of the table `loan`.
 ghost use Rattle.std.specs.Prelude.{◌≡◌, ◌++◌, IfOk, OnOk, map, string_bytes};
-ghost use Rattle.section_core.specs.Terms.{agreement_with};
+ghost use Rattle.reports.specs.Terms.{agreement_with};
 ghost use Rattle.export_core.specs.Loans.{all_loan_rows, loan_row, loan_values};
 ghost use Rattle.export_core.specs.Statements.{row};
 
 use crate::statements::row;
 use codes_core::{LoanCode, NoMemory};
 use posting_core::Ledger;
-use section_core::{Terms, Value, agreed_terms, day_if, state_if};
+use reports::sections::{Terms, Value, agreed_terms, day_if, state_if};
 use std::alloc::Global;
 
 /// Returns the rows of the agreed loans, in the order of their agreements. Fails with `NoMemory`.

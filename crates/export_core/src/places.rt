@@ -1,13 +1,13 @@
 //! The rows of the table `place`.
 ghost use Rattle.std.specs.Prelude.{◌≡◌, ◌<◌, ◌≤◌, IfOk, length, map, string_bytes, take};
 ghost use Rattle.std.specs.List.{range_with_len};
-ghost use Rattle.section_core.specs.Values.{value_of};
+ghost use Rattle.reports.specs.Values.{value_of};
 ghost use Rattle.export_core.specs.Setups.{before_last_dash, inside, place_row};
 
 use crate::statements::row;
 use codes_core::{NoMemory, PlaceCode};
 use nest_core::{PlaceNo, Setup};
-use section_core::Value;
+use reports::sections::Value;
 use std::alloc::Global;
 
 /// Returns the rows of the places, in the setup's order. Fails with `NoMemory`.

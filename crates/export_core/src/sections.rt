@@ -13,7 +13,7 @@ use crate::statements::{add_inserts, row};
 use crate::things::thing_rows;
 use codes_core::{Day, NoMemory};
 use posting_core::Ledger;
-use section_core::{Value, day_if};
+use reports::sections::{Value, day_if};
 use std::alloc::Global;
 
 /// Returns the script of a record: the statements of SQL that make its flat database. The view

@@ -1,13 +1,13 @@
 //! The statements that insert rows.
 ghost use Rattle.std.specs.Prelude.{◌≡◌, ◌<◌, ◌*◌, ◌++◌, IfOk, OnOk, length, map};
 ghost use Rattle.std.specs.Prelude.{string_bytes};
-ghost use Rattle.section_core.specs.Values.{value_of};
+ghost use Rattle.reports.specs.Values.{value_of};
 ghost use Rattle.export_core.specs.Literals.{literal};
 ghost use Rattle.export_core.specs.Statements.{insert, inserts, row, statement};
 
 use crate::literals::literal;
 use codes_core::NoMemory;
-use section_core::Value;
+use reports::sections::Value;
 use std::alloc::Global;
 
 /// The most rows of a statement. The database takes no more.

@@ -7,7 +7,7 @@ use crate::statements::row;
 use codes_core::{Day, NoMemory, ThingKind};
 use nest_core::{Setup, ThingNo};
 use posting_core::Ledger;
-use section_core::{Value, codes_text, day_if, place_if, word_if};
+use reports::sections::{Value, codes_text, day_if, place_if, word_if};
 use std::alloc::Global;
 
 /// Returns the rows of the things, in the setup's order. Fails with `NoMemory`.

@@ -6,7 +6,7 @@ use Rattle.register_sql.specs.Growing.{IsGrown}
 use Rattle.register_sql.proofs.Binds.{same_all}
 use Rattle.register_store.specs.Holdings.{Holding, Comes}
 use Rattle.register_store.specs.StoredRows.{AreSame}
-use Rattle.setup_reports.specs.GrowthTexts.{has_changes}
+use Rattle.reports.specs.GrowthTexts.{has_changes}
 use Rattle.hub_program.specs.Growths.{GrowsIf, GrowsTo, next_setup}
 
 same_store : (store : Holding) → Comes store store AreSame

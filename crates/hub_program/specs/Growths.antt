@@ -6,7 +6,7 @@ use Rattle.posting_core.specs.Book.{Book}
 use Rattle.register_sql.specs.Growing.{IsGrown}
 use Rattle.register_store.specs.Holdings.{Holding, Comes}
 use Rattle.register_store.specs.StoredRows.{AreSame}
-use Rattle.setup_reports.specs.GrowthTexts.{has_changes}
+use Rattle.reports.specs.GrowthTexts.{has_changes}
 use Rattle.sqlite_disk.specs.declared.Disk.{Ghosts}
 use Rattle.hub_program.specs.Judging.{IsJudged}
 use Rattle.hub_program.specs.Places.{IsKeptAlone}

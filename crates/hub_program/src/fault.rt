@@ -8,7 +8,7 @@ use hub_core::RunFault;
 use line_files::GapFault;
 use nest_core::SetupFault;
 use register_store::StoreFault;
-use setup_reports::PrintFault;
+use reports::PrintFault;
 use station_core::Refusal;
 use std::alloc::{AllocError, AllocFailed};
 use std::io;

@@ -18,7 +18,7 @@ use nest_core::{GrowFault, Setup, SetupFault};
 use posting_core::Ledger;
 use register_sql::SqlRegister;
 use register_store::StoreFault;
-use setup_reports::{has_changes, print_growth, print_now_known, print_setup};
+use reports::{has_changes, print_growth, print_now_known, print_setup};
 use sqlite::{Alter, Start};
 use sqlite_disk::Disk;
 use std::alloc::Global;

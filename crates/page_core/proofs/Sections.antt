@@ -9,9 +9,9 @@ use Rattle.page_core.specs.Pieces.{Piece, page_text, piece_text}
 use Rattle.page_core.specs.Pieces.Piece.{markup}
 use Rattle.page_core.specs.Pages.{section}
 use Rattle.reports.specs.declared.fault.PrintFault.{PrintFault}
-use Rattle.section_core.specs.Writes.{Stops, Writes, rows_text}
-use Rattle.section_core.proofs.WrittenText.{stops_longer, stops_within, writes_after}
-use Rattle.section_core.proofs.Ranges.{flat_more, range_parts}
+use Rattle.reports.specs.Writes.{Stops, Writes, rows_text}
+use Rattle.reports.proofs.WrittenSections.{stops_longer, stops_within, writes_after}
+use Rattle.reports.proofs.Ranges.{flat_more, range_parts}
 
 rows-text : (rows : List (List Piece))
     → page_text (flat_map (λ row. row) rows) ≡ rows_text (map page_text rows)

@@ -10,7 +10,7 @@ use Rattle.posting_core.specs.VerdictNames.{verdict_name}
 use Rattle.reports.specs.Causes.{sentence}
 use Rattle.reports.specs.Cells.{Cell, joined_words, number, text}
 use Rattle.reports.specs.Texts.{station_text}
-use Rattle.section_core.specs.Values.{word_if}
+use Rattle.reports.specs.Values.{word_if}
 use Rattle.page_core.specs.Pieces.{Piece, page_text}
 use Rattle.page_core.specs.declared.entries.TheConstants.{MOST_SHOWN}
 use Rattle.page_core.specs.Values.{values_row}

@@ -8,7 +8,7 @@ use Rattle.posting_core.specs.declared.entry.NewSpot.{NewSpot}
 use Rattle.posting_core.specs.Book.{Book, chain_in, changes_of}
 use Rattle.posting_core.specs.Past.{upto}
 use Rattle.reports.specs.Texts.{place_text, station_text, thing_text}
-use Rattle.section_core.specs.Values.{codes_text}
+use Rattle.reports.specs.Values.{codes_text}
 use Rattle.page_core.specs.Pieces.{Piece, page_text}
 use Rattle.page_core.specs.Pieces.Piece.{markup, number, text}
 

@@ -10,7 +10,7 @@ use Rattle.posting_core.specs.Book.{Book, last_day_in, loans_in}
 use Rattle.count_core.specs.Reports.{overdue}
 use Rattle.reports.specs.Cells.{Cell, day_if, nothing, number, text}
 use Rattle.reports.specs.Loans.{state_cell}
-use Rattle.section_core.specs.Terms.{is_out}
+use Rattle.reports.specs.Terms.{is_out}
 use Rattle.page_core.specs.Pieces.{Piece, page_text}
 use Rattle.page_core.specs.Values.{values_row}
 

@@ -9,7 +9,7 @@ use codes_core::NoMemory;
 use count_core::AwayObject;
 use nest_core::Setup;
 use posting_core::Ledger;
-use section_core::{Rows, Value, place_if};
+use reports::sections::{Rows, Value, place_if};
 use std::alloc::Global;
 
 /// The objects, ascending.

@@ -11,7 +11,7 @@ use crate::values::values_row;
 use codes_core::NoMemory;
 use posting_core::{Ledger, PostedEntry, past, post_next};
 use reports::cause_text;
-use section_core::{Rows, Value, entry_at, station_name, word_if};
+use reports::sections::{Rows, Value, entry_at, station_name, word_if};
 use std::alloc::Global;
 
 /// The most entries that the page shows.

@@ -4,8 +4,8 @@ ghost use Rattle.std.specs.List.{flat_map};
 ghost use Rattle.posting_core.specs.Book.{chain_in};
 ghost use Rattle.posting_core.specs.Past.{upto};
 ghost use Rattle.reports.specs.Texts.{place_text, station_text, thing_text};
-ghost use Rattle.section_core.specs.Values.{codes_text};
-ghost use Rattle.section_core.specs.Writes.{Writes};
+ghost use Rattle.reports.specs.Values.{codes_text};
+ghost use Rattle.reports.specs.Writes.{Writes};
 ghost use Rattle.page_core.specs.Escapes.{escaped};
 ghost use Rattle.page_core.specs.Histories.{histories_text, history_text, spot_text};
 
@@ -15,7 +15,7 @@ use codes_core::NoMemory;
 use nest_core::{PlaceNo, Setup, StationNo, ThingNo};
 use posting_core::{Ledger, NewSpot, PostedEntry, past};
 use reports::PrintFault;
-use section_core::{codes_text, entry_at, post_planned, station_name, write_text};
+use reports::sections::{codes_text, entry_at, post_planned, station_name, write_text};
 use std::alloc::Global;
 use std::io::Write;
 

@@ -3,12 +3,12 @@ ghost use Rattle.std.specs.Prelude.{◌≡◌, IfOk, map, string_bytes};
 ghost use Rattle.std.specs.List.{flat_map};
 ghost use Rattle.page_core.specs.Pieces.{page_text};
 ghost use Rattle.page_core.specs.LoanObjects.{object_row, objects_text, terms_row};
-ghost use Rattle.section_core.specs.Terms.{agreement_with};
+ghost use Rattle.reports.specs.Terms.{agreement_with};
 
 use crate::values::values_row;
 use codes_core::{LoanCode, NoMemory, ThingCode};
 use posting_core::Ledger;
-use section_core::{Rows, Terms, Value, agreed_terms, stage_if, stage_of};
+use reports::sections::{Rows, Terms, Value, agreed_terms, stage_if, stage_of};
 use std::alloc::Global;
 
 /// The agreed loans, in the order of their agreements.

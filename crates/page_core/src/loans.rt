@@ -5,14 +5,14 @@ ghost use Rattle.page_core.specs.Pieces.{page_text};
 ghost use Rattle.page_core.specs.Loans.{count_out, is_among, loan_text, loan_values};
 ghost use Rattle.page_core.specs.Loans.{overdue_cell};
 ghost use Rattle.page_core.specs.Loans.{overdue_on};
-ghost use Rattle.section_core.specs.Terms.{agreement_with};
-ghost use Rattle.section_core.specs.Values.{value_of};
+ghost use Rattle.reports.specs.Terms.{agreement_with};
+ghost use Rattle.reports.specs.Values.{value_of};
 ghost use Rattle.page_core.specs.Values.{values_row};
 
 use crate::values::values_row;
 use codes_core::{Day, LoanCode, NoMemory};
 use posting_core::Ledger;
-use section_core::{Rows, Terms, Value, agreed_terms, day_if, is_out, state_if};
+use reports::sections::{Rows, Terms, Value, agreed_terms, day_if, is_out, state_if};
 use std::alloc::Global;
 
 /// The agreed loans, in the order of their agreements, and those of them that are overdue.

@@ -8,7 +8,7 @@ use crate::values::escaped_day;
 use codes_core::{Day, NoMemory};
 use nest_core::Setup;
 use posting_core::Ledger;
-use section_core::Rows;
+use reports::sections::Rows;
 use std::alloc::Global;
 
 /// Two rows: the numbers of a record, and its seal.

@@ -3,7 +3,7 @@ ghost use Rattle.std.specs.Prelude.{◌≡◌};
 ghost use Rattle.page_core.specs.Pieces.{page_text};
 ghost use Rattle.page_core.specs.Pages.{away, entries, histories, lending, loan_objects, loans};
 ghost use Rattle.page_core.specs.Pages.{locations, numbers, page, posts, stations, tree, unplaced};
-ghost use Rattle.section_core.specs.Writes.{Writes};
+ghost use Rattle.reports.specs.Writes.{Writes};
 
 use crate::away::Away;
 use crate::entries::LastEntries;
@@ -22,7 +22,7 @@ use crate::tree::Tree;
 use codes_core::Day;
 use posting_core::Ledger;
 use reports::PrintFault;
-use section_core::{write_section, write_text};
+use reports::sections::{write_section, write_text};
 use std::alloc::Global;
 use std::io::Write;
 use std::thread::Threads;

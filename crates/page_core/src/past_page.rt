@@ -3,7 +3,7 @@ ghost use Rattle.std.specs.Prelude.{◌≡◌};
 ghost use Rattle.posting_core.specs.Past.{as_of, upto};
 ghost use Rattle.page_core.specs.Pieces.{page_text};
 ghost use Rattle.page_core.specs.Pages.{page};
-ghost use Rattle.section_core.specs.Writes.{Writes};
+ghost use Rattle.reports.specs.Writes.{Writes};
 
 use crate::write_page;
 use codes_core::Day;

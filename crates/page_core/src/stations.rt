@@ -2,13 +2,13 @@
 ghost use Rattle.std.specs.Prelude.{◌≡◌, ◌<◌, IfOk, length, string_bytes};
 ghost use Rattle.reports.specs.Stations.{has_signed_off, next_number};
 ghost use Rattle.page_core.specs.Stations.{next_cell, station_row_text};
-ghost use Rattle.section_core.specs.Values.{value_of};
+ghost use Rattle.reports.specs.Values.{value_of};
 
 use crate::values::values_row;
 use codes_core::NoMemory;
 use nest_core::StationNo;
 use posting_core::{LAST_NUMBER, Ledger};
-use section_core::{Rows, Value};
+use reports::sections::{Rows, Value};
 use std::alloc::Global;
 
 /// The stations, in the setup's order.

@@ -14,7 +14,7 @@ use crate::lines::{Line, tree_lines, unplaced_lines};
 use codes_core::{NoMemory, ThingKind};
 use nest_core::{PlaceNo, Setup, ThingNo};
 use posting_core::Ledger;
-use section_core::Rows;
+use reports::sections::Rows;
 use std::alloc::Global;
 
 /// The lines of the tree.

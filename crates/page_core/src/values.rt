@@ -3,7 +3,7 @@ ghost use Rattle.std.specs.Prelude.{◌≡◌, ◌++◌, IfOk, OnOk, map};
 ghost use Rattle.std.specs.Prelude.{decimal, string_bytes};
 ghost use Rattle.codes_core.specs.Day.{day_text};
 ghost use Rattle.reports.specs.Cells.{plain_text};
-ghost use Rattle.section_core.specs.Values.{value_of};
+ghost use Rattle.reports.specs.Values.{value_of};
 ghost use Rattle.page_core.specs.Escapes.{escaped};
 ghost use Rattle.page_core.specs.Pieces.{page_text};
 ghost use Rattle.page_core.specs.Tables.{cell};
@@ -12,7 +12,7 @@ ghost use Rattle.page_core.specs.Values.{values_row};
 use crate::escapes::escaped;
 use crate::tables::push_cell;
 use codes_core::{Day, NoMemory};
-use section_core::Value;
+use reports::sections::Value;
 use std::alloc::Global;
 
 /// The row of a table with these values. Fails with `NoMemory`.

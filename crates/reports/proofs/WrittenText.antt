@@ -15,6 +15,7 @@ use Rattle.codes_core.proofs.Parts.{all_taken}
 use Rattle.reports.specs.declared.fault.PrintFault.{PrintFault}
 use Rattle.reports.specs.declared.fault.PrintFault.TheVariants.{NoMemory, WriteFailed}
 use Rattle.reports.specs.Forms.{Prints, Stops, can_end, ends_line}
+use Rattle.reports.specs.Writing as writing
 
 pub appends_kept : (a b c : Option (List ℕ)) (bs : List ℕ) → Appends a b bs → Keeps b c
     → Appends a c bs
@@ -40,13 +41,13 @@ more_taken a b c text m n p q =
     (Appends-trans a b c (take m text) (take n (drop m text)) p r)
 
 -- A prefix of s is a prefix of s ++ t.
-front_of : (k : ℕ) (s t : List ℕ) → (j : ℕ) × (take j (s ++ t) ≡ take k s)
+pub front_of : (k : ℕ) (s t : List ℕ) → (j : ℕ) × (take j (s ++ t) ≡ take k s)
 front_of zero s t = (zero, refl)
 front_of (suc k) [] t = (zero, refl)
 front_of (suc k) (x ∷ s) t = let r = front_of k s t in (suc r.0, ap (λ l. x ∷ l) r.1)
 
 -- Text s with a prefix of t is a prefix of s ++ t.
-past_of : (k : ℕ) (s t : List ℕ) → (j : ℕ) × (take j (s ++ t) ≡ s ++ take k t)
+pub past_of : (k : ℕ) (s t : List ℕ) → (j : ℕ) × (take j (s ++ t) ≡ s ++ take k t)
 past_of k [] t = (k, refl)
 past_of k (x ∷ s) t = let r = past_of k s t in (suc r.0, ap (λ l. x ∷ l) r.1)
 
@@ -154,3 +155,10 @@ pub prints_after : (a b c : Option (List ℕ)) (r : Result Unit PrintFault) (s t
     → IsTrue (ends_line s) → Appends a b s → Prints b c r t → Prints a c r (s ++ t)
 prints_after a b c (Ok u) s t ends p q = Appends-trans a b c s t p q
 prints_after a b c (Err y) s t ends p q = stops_within a b c y s t ends p q
+
+-- What is written of a text that was made as a whole is printed of it.
+pub prints_whole : (a b : Option (List ℕ)) (r : Result Unit PrintFault) (text : List ℕ)
+    → writing.Prints a b r text → Prints a b r text
+prints_whole a b (Ok u) text p = p
+prints_whole a b (Err NoMemory) text p = (0, refl, p)
+prints_whole a b (Err WriteFailed) text p = (p.0, refl, p.1)

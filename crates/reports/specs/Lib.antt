@@ -14,3 +14,11 @@ pub mod Texts
 pub mod Things
 pub mod Cells
 pub mod Causes
+pub mod EntryChanges
+pub mod Values
+pub mod Writes
+pub mod Lines
+pub mod SetupFiles
+pub mod GrowthTexts
+pub mod Writing
+pub mod NowKnown

@@ -1,16 +1,16 @@
-//! Why printing a report stopped.
+//! Why printing stopped.
 
 use codes_core::NoMemory;
 use std::alloc::{AllocError, AllocFailed};
 use thiserror::Error;
 
-/// Why printing a report stopped.
+/// Why printing stopped.
 #[derive(Clone, Copy, Debug, PartialEq, Eq, Error)]
 pub enum PrintFault {
     /// Out of memory.
     #[error("out of memory")]
     NoMemory,
-    /// The writer failed, accepted no byte, or did not accept a line in 4,294,967,295 writes.
+    /// The writer failed, accepted no byte, or did not accept a text in 4,294,967,295 writes.
     #[error("the output could not be written")]
     WriteFailed,
 }

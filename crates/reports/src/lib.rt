@@ -1,4 +1,5 @@
-//! The reports on a record, printed as plain lines, comma-separated values, JSON or a table.
+//! The reports on a record, printed as plain lines, comma-separated values, JSON or a table. Prints
+//! a setup, too.
 //!
 //! A [`Question`] is what a report answers, such as the location of a thing or the entries from a
 //! number on. [`print`] writes the answer in a [`Form`]. A [`PrintFault`] says why it stopped.
@@ -12,6 +13,9 @@
 //! print(&rt, alloc, hub.ledger(), &Question::Where(code), Form::Plain, &mut out)?;
 //! // 2001.4.1 at S2 in C2 C1
 //! ```
+//!
+//! [`print_setup`] prints a setup as a file, and [`print_growth`] how it grows. The module
+//! [`sections`] has what a page of the record and its export share.
 //!
 //! A new report takes a variant of [`Question`], the names of its columns, a definition of its
 //! rows in `specs/`, a file in `reports/` that builds them, and an arm in [`print`].
@@ -27,7 +31,9 @@ mod printing;
 mod question;
 mod reports;
 mod rows;
+pub mod sections;
 mod sentences;
+mod setups;
 mod table;
 mod writing;
 
@@ -37,4 +43,4 @@ pub use printing::{print, print_as_of};
 pub use question::{EntryFilter, LoanFilter, Question, names_of};
 pub use reports::loan::partner_of;
 pub use sentences::{cause_text, where_text};
-pub use writing::write_text;
+pub use setups::{has_changes, print_growth, print_now_known, print_setup};

@@ -1,13 +1,13 @@
 //! Writes texts.
 ghost use Rattle.std.specs.Prelude.{◌≡◌};
-ghost use Rattle.reports.specs.Forms.{Prints};
+ghost use Rattle.reports.specs.Writing.{Prints};
 
 use crate::PrintFault;
 use std::io::{ErrorKind, Write};
 
 /// Writes these bytes. After a fault, a prefix of them is written. Fails with `WriteFailed` if the
 /// writer fails, accepts no byte, or does not accept them all in 4,294,967,295 writes.
-pub fn write_text<W: Write>(out: &mut W, text: &[u8]) -> Result<(), PrintFault>
+pub(crate) fn write_text<W: Write>(out: &mut W, text: &[u8]) -> Result<(), PrintFault>
     ensures { Prints (W.contents out.old) (W.contents out.new) result text.now }
 {
     let mut done = 0;

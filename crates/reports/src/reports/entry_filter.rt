@@ -6,7 +6,7 @@ ghost use Rattle.reports.specs.EntryFilters.{is_about, is_from, is_in_range, is_
 ghost use Rattle.reports.specs.EntryFilters.{names_loan, names_thing};
 
 use crate::EntryFilter;
-use crate::reports::posted::station_name;
+use crate::sections::station_name;
 use codes_core::{LoanCode, NoMemory, ThingCode};
 use nest_core::Setup;
 use posting_core::{Message, PostedEntry, Verdict};

@@ -2,7 +2,6 @@
 ghost use Rattle.std.specs.Prelude.{◌≡◌, IfOk, map, option_map};
 ghost use Rattle.std.specs.Option.{option_and_then};
 ghost use Rattle.nest_core.specs.Museum.{find_thing};
-ghost use Rattle.posting_core.specs.Agreements.{agreement, agreement_by};
 ghost use Rattle.posting_core.specs.Book.{line_in};
 ghost use Rattle.reports.specs.LoanLists.{partner_of};
 ghost use Rattle.reports.specs.Loans.{object_row, stage_word, state_word, terms_words};
@@ -13,19 +12,10 @@ use crate::Form;
 use crate::field::Field;
 use crate::optional_fields::day_if;
 use crate::rows::Rows;
-use codes_core::{Day, LoanCode, NoMemory, PlaceCode, ThingCode};
-use posting_core::{Ledger, LineStage, LoanState, Message, PostedEntry, Verdict};
+use crate::sections::{Terms, agreed_terms};
+use codes_core::{LoanCode, NoMemory, PlaceCode, ThingCode};
+use posting_core::{Ledger, LineStage, LoanState};
 use std::alloc::Global;
-
-/// The terms of an agreement.
-#[derive(Clone, Copy)]
-pub(crate) struct Terms<'a> {
-    pub loan: LoanCode,
-    pub partner: PlaceCode,
-    pub objects: &'a [ThingCode],
-    pub first: Day,
-    pub last: Day,
-}
 
 /// A loan that is agreed.
 #[derive(Drop)]
@@ -62,13 +52,6 @@ impl<'a> Rows for Loan<'a> {
     }
 }
 
-/// The terms of a loan, if it is agreed.
-pub(crate) fn agreed_terms<'a>(ledger: &'a Ledger, loan: &LoanCode) -> Option<Terms<'a>>
-    ensures { option_map agreement_with result ≡ agreement ledger.entry.now.posted loan.now }
-{
-    terms_in(ledger.agreement(loan)?)
-}
-
 /// Returns the partner of a loan, if it is agreed.
 pub fn partner_of(ledger: &Ledger, loan: &LoanCode) -> Option<PlaceCode>
     ensures { result ≡ partner_of ledger.now loan.now }
@@ -76,31 +59,6 @@ pub fn partner_of(ledger: &Ledger, loan: &LoanCode) -> Option<PlaceCode>
     match agreed_terms(ledger, loan) {
         Some(terms) => Some(terms.partner),
         None => None,
-    }
-}
-
-/// The terms that an entry agrees, if it agrees a loan.
-fn terms_in(entry: &PostedEntry) -> Option<Terms<'_>>
-    ensures { option_map agreement_with result
-        ≡ agreement_by entry.entry.now.verdict entry.entry.now.message }
-{
-    match entry.message().as_message() {
-        Some(
-            Message::Agree {
-                first,
-                last,
-                loan,
-                partner,
-                objects,
-            },
-        ) if matches!(entry.verdict(), Verdict::Applied) => Some(Terms {
-            loan: *loan,
-            partner: *partner,
-            objects: objects.as_slice(),
-            first: *first,
-            last: *last,
-        }),
-        _ => None,
     }
 }
 

@@ -11,8 +11,9 @@ ghost use Rattle.reports.specs.Cells.{cell_of};
 
 use crate::field::Field;
 use crate::optional_fields::{day_if, name_if};
-use crate::reports::loan::{Terms, agreed_terms, stage_of, state_field};
+use crate::reports::loan::{stage_of, state_field};
 use crate::rows::Rows;
+use crate::sections::{Terms, agreed_terms};
 use crate::{Form, LoanFilter};
 use codes_core::{Day, LoanCode, Name, NoMemory, ThingCode};
 use posting_core::{Ledger, LineStage, LoanState, Message, PostedEntry, Verdict};

@@ -1,16 +1,16 @@
 //! The posted entries.
-ghost use Rattle.std.specs.Prelude.{◌≡◌, ◌<◌, All, IfOk, Some, length, map, reverse, slice_get};
+ghost use Rattle.std.specs.Prelude.{◌≡◌, ◌<◌, All, IfOk, length, map};
 ghost use Rattle.reports.specs.EntryFilters.{posted_rows, wanted};
 ghost use Rattle.reports.specs.Stations.{entry_row, entry_row_at};
-ghost use Rattle.reports.specs.Texts.{station_text};
 ghost use Rattle.reports.specs.Cells.{cell_of};
 
 use crate::field::Field;
 use crate::reports::entry_filter::is_wanted;
 use crate::rows::Rows;
+use crate::sections::{entry_at, station_name};
 use crate::{EntryFilter, Form};
 use codes_core::NoMemory;
-use nest_core::{Setup, StationNo};
+use nest_core::Setup;
 use posting_core::{Ledger, PostedEntry};
 use register_store::message_text;
 use std::alloc::Global;
@@ -87,14 +87,6 @@ fn entry_row_at<'a>(
     entry_row(alloc, ledger.setup(), at as u64 + 1, entry_at(ledger, at))
 }
 
-/// The entry at this index, from 0.
-pub(crate) fn entry_at(ledger: &Ledger, at: usize) -> &PostedEntry
-    requires { at < length ledger.now.posted }
-    ensures { slice_get (reverse ledger.entry.now.posted) at ≡ Some result.now }
-{
-    &ledger.posted()[at]
-}
-
 fn entry_row<'a>(
     alloc: Global,
     setup: &'a Setup,
@@ -113,15 +105,4 @@ fn entry_row<'a>(
         Field::Word(entry.verdict().name()),
         Field::Json(text),
     ]?)
-}
-
-/// The name of a station. Empty if the setup doesn't have the station.
-pub(crate) fn station_name(setup: &Setup, station: StationNo) -> &str
-    ensures { result.now ≡ station_text setup.entry.now station }
-{
-    if station < setup.stations() {
-        setup.station_name(station)
-    } else {
-        ""
-    }
 }

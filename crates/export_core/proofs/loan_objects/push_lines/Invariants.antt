@@ -1,5 +1,5 @@
 use Rattle.std.proofs.Common.{◌≡◌, ◌++◌, map, string_bytes, take}
-use Rattle.section_core.specs.Terms.{agreement_with}
+use Rattle.reports.specs.Terms.{agreement_with}
 use Rattle.export_core.specs.Loans.{object_row}
 use Rattle.export_core.proofs.loan_objects.push_lines.Given as goal
 

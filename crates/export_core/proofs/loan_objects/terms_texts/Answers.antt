@@ -1,6 +1,6 @@
 use Rattle.std.proofs.Common.{◌∙◌, ◌++◌, [], ap, get_or, string_bytes}
 use Rattle.std.proofs.lemmas.Option.{slice_get-get_or}
-use Rattle.section_core.specs.Terms.{agreement_with}
+use Rattle.reports.specs.Terms.{agreement_with}
 use Rattle.export_core.specs.Loans.{lent_if}
 use Rattle.export_core.proofs.Joining.{one_more}
 use Rattle.export_core.proofs.loan_objects.terms_texts.Goals as goal

@@ -1,6 +1,6 @@
 use Rattle.std.proofs.Common.{◌≡◌, string_bytes, take}
 use Rattle.std.specs.List.{flat_map}
-use Rattle.section_core.specs.Terms.{agreement_with}
+use Rattle.reports.specs.Terms.{agreement_with}
 use Rattle.export_core.specs.Loans.{lent_if}
 use Rattle.export_core.proofs.loan_objects.terms_texts.Given as goal
 

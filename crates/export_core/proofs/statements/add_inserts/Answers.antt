@@ -1,7 +1,7 @@
 use Rattle.std.proofs.Common.{◌∙◌, ◌++◌, ap, arith, map, string_bytes, sym}
 use Rattle.std.specs.List.{flat_map, range_with_len}
 use Rattle.std.proofs.lemmas.List.{append_assoc}
-use Rattle.section_core.proofs.Ranges.{flat_more}
+use Rattle.reports.proofs.Ranges.{flat_more}
 use Rattle.export_core.specs.Statements.{statement}
 use Rattle.export_core.proofs.statements.add_inserts.Goals as goal
 

@@ -1,6 +1,6 @@
 use Rattle.std.proofs.Common.{◌≡◌, map, take}
 use Rattle.std.specs.Prelude.{string_bytes}
-use Rattle.section_core.specs.Values.{value_of}
+use Rattle.reports.specs.Values.{value_of}
 use Rattle.export_core.specs.Literals.{literal}
 use Rattle.export_core.proofs.statements.literals.Given as goal
 

@@ -1,7 +1,7 @@
 use Rattle.std.proofs.Common.{rules, map}
 use Rattle.std.specs.Prelude.{codes, string_bytes}
-use Rattle.section_core.specs.Values.{value_of}
-use Rattle.section_core.proofs.Joins.{joined_alike}
+use Rattle.reports.specs.Values.{value_of}
+use Rattle.reports.proofs.Joins.{joined_alike}
 use Rattle.export_core.specs.Literals.{literal}
 use Rattle.export_core.proofs.statements.row.Goals as goal
 

@@ -3,7 +3,7 @@ use Rattle.nest_core.specs.SetupGrowing.{with_file}
 use Rattle.register_sql.specs.Growing.{IsGrown}
 use Rattle.register_sql.specs.Stores.{in_store}
 use Rattle.register_store.specs.Holdings.{Comes}
-use Rattle.setup_reports.specs.GrowthTexts.{has_changes}
+use Rattle.reports.specs.GrowthTexts.{has_changes}
 use Rattle.sqlite.specs.Held.{state}
 use Rattle.hub_program.specs.Growths.{GrowsTo, next_setup}
 use Rattle.hub_program.proofs.Growths.{nothing_added, only_checked, rows_added}

@@ -6,7 +6,7 @@ use Rattle.reports.specs.Cells.{Cell, text, text_if}
 use Rattle.reports.specs.Texts.{place_text_if, thing_text}
 use Rattle.reports.specs.Things.{away_row as away_values}
 use Rattle.page_core.specs.Pieces.{page_text}
-use Rattle.section_core.specs.Values.{value_of}
+use Rattle.reports.specs.Values.{value_of}
 use Rattle.page_core.specs.Values.{values_row}
 use Rattle.page_core.proofs.away.away_row.Goals as goal
 

@@ -7,7 +7,7 @@ use Rattle.posting_core.specs.declared.entry.Changes.{Changes}
 use Rattle.posting_core.specs.declared.entry.Entry.{Entry}
 use Rattle.posting_core.specs.Book.{Book, changes_of}
 use Rattle.posting_core.specs.Past.{upto}
-use Rattle.section_core.specs.EntryChanges.{changes_at}
+use Rattle.reports.specs.EntryChanges.{changes_at}
 use Rattle.page_core.specs.Histories.{history_text, rows_of, spot_row, spot_text}
 use Rattle.page_core.specs.Pieces.{page_text}
 use Rattle.page_core.proofs.Sections.{rows_within}

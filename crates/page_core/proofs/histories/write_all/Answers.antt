@@ -3,8 +3,8 @@ use Rattle.std.proofs.KnownBytes.{Appends-nil, Appends-trans}
 use Rattle.std.specs.Io.KnownBytes.{Appends}
 use Rattle.std.specs.List.{flat_map, range_with_len}
 use Rattle.page_core.specs.Histories.{history_text}
-use Rattle.section_core.proofs.WrittenText.{writes_err}
-use Rattle.section_core.proofs.Ranges.{flat_more}
+use Rattle.reports.proofs.WrittenSections.{writes_err}
+use Rattle.reports.proofs.Ranges.{flat_more}
 use Rattle.page_core.proofs.Sections.{stops_in_range}
 use Rattle.page_core.proofs.histories.write_all.Goals as goal
 

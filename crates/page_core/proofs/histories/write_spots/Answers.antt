@@ -1,4 +1,4 @@
-use Rattle.section_core.proofs.WrittenText.{stops_longer, stops_within, writes_after, writes_err}
+use Rattle.reports.proofs.WrittenSections.{stops_longer, stops_within, writes_after, writes_err}
 use Rattle.page_core.proofs.histories.write_spots.Goals as goal
 
 pub returns-in_err-write_text : goal.returns-in_err-write_text

@@ -1,6 +1,6 @@
 use Rattle.std.proofs.Common.{◌∙◌, ◌+◌, ap, arith, cond, filter, length, sym, take}
 use Rattle.std.proofs.lemmas.List.Filters.{length-filter_more}
-use Rattle.section_core.specs.Terms.{agreement_with, is_out}
+use Rattle.reports.specs.Terms.{agreement_with, is_out}
 use Rattle.page_core.proofs.loans.count_out.Goals as goal
 use Rattle.page_core.proofs.loans.count_out.Goals.{then-is_out, else-is_out}
 

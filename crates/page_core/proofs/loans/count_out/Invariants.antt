@@ -1,5 +1,5 @@
 use Rattle.std.proofs.Common.{◌≡◌, ◌≤◌, filter, length, take}
-use Rattle.section_core.specs.Terms.{agreement_with, is_out}
+use Rattle.reports.specs.Terms.{agreement_with, is_out}
 use Rattle.page_core.proofs.loans.count_out.Given as goal
 
 abbrev pub invariant-loop-i : goal.invariant-loop-i

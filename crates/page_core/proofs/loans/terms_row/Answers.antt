@@ -5,10 +5,10 @@ use Rattle.reports.specs.Loans.{state_cell, state_word}
 use Rattle.posting_core.specs.Book.{last_day_in}
 use Rattle.page_core.specs.Pieces.{page_text}
 use Rattle.page_core.specs.Loans.{loan_values}
-use Rattle.section_core.specs.Terms.{agreement_with}
-use Rattle.section_core.specs.Values.{value_of}
+use Rattle.reports.specs.Terms.{agreement_with}
+use Rattle.reports.specs.Values.{value_of}
 use Rattle.page_core.specs.Values.{values_row}
-use Rattle.section_core.specs.declared.terms.Terms.{Terms}
+use Rattle.reports.specs.declared.sections.terms.Terms.{Terms}
 use Rattle.page_core.proofs.loans.terms_row.Goals as goal
 
 -- the values, by those that the ledger answers

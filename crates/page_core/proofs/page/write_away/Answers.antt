@@ -2,7 +2,7 @@ use Rattle.std.proofs.Common.{List, ap, subst, ℕ, ◌++◌, ◌∙◌}
 use Rattle.count_core.specs.Reports.{away}
 use Rattle.page_core.specs.Away.{away_row}
 use Rattle.page_core.specs.declared.frame.TheConstants.{AWAY, TABLE_END}
-use Rattle.section_core.specs.Writes.{Writes, rows_text}
+use Rattle.reports.specs.Writes.{Writes, rows_text}
 use Rattle.page_core.proofs.Sections.{section-texts}
 use Rattle.page_core.proofs.page.write_away.Goals as goal
 

@@ -1,7 +1,7 @@
 use Rattle.std.proofs.Common.{List, ap, subst, ℕ, ◌++◌, ◌∙◌}
 use Rattle.page_core.specs.Entries.{entry_row, last_entries}
 use Rattle.page_core.specs.declared.frame.TheConstants.{ENTRIES, TABLE_END}
-use Rattle.section_core.specs.Writes.{Writes, rows_text}
+use Rattle.reports.specs.Writes.{Writes, rows_text}
 use Rattle.page_core.proofs.Sections.{section-texts}
 use Rattle.page_core.proofs.page.write_entries.Goals as goal
 

@@ -4,7 +4,7 @@ use Rattle.std.specs.List.{range_with_len}
 use Rattle.std.proofs.lemmas.List.Folds.{flat_map-map}
 use Rattle.page_core.specs.declared.frame.TheConstants.{HISTORIES, HISTORIES_END}
 use Rattle.page_core.specs.Histories.{history_row, history_text}
-use Rattle.section_core.specs.Writes.{Writes}
+use Rattle.reports.specs.Writes.{Writes}
 use Rattle.page_core.proofs.Sections.{section-texts}
 use Rattle.page_core.proofs.page.write_histories.Goals as goal
 

@@ -1,7 +1,7 @@
 use Rattle.std.proofs.Common.{◌++◌}
 use Rattle.page_core.specs.Pages.{away, loan_objects, loans}
 use Rattle.page_core.proofs.Sections.{first_fails, later_fails, then_rest}
-use Rattle.section_core.proofs.WrittenText.{writes_err}
+use Rattle.reports.proofs.WrittenSections.{writes_err}
 use Rattle.page_core.proofs.page.write_lending.Goals as goal
 
 pub returns-in_err-write_loans : goal.returns-in_err-write_loans

@@ -2,7 +2,7 @@ use Rattle.std.proofs.Common.{List, subst, ℕ}
 use Rattle.posting_core.specs.Book.{loans_in}
 use Rattle.page_core.specs.declared.frame.TheConstants.{LOAN_OBJECTS, TABLE_END}
 use Rattle.page_core.specs.LoanObjects.{objects_row}
-use Rattle.section_core.specs.Writes.{Writes}
+use Rattle.reports.specs.Writes.{Writes}
 use Rattle.page_core.proofs.Sections.{section-texts}
 use Rattle.page_core.proofs.page.write_loan_objects.Goals as goal
 

@@ -2,7 +2,7 @@ use Rattle.std.proofs.Common.{List, ap, subst, ℕ, ◌++◌, ◌∙◌}
 use Rattle.posting_core.specs.Book.{loans_in}
 use Rattle.page_core.specs.Loans.{loan_row, overdue_on}
 use Rattle.page_core.specs.declared.frame.TheConstants.{LOANS, TABLE_END}
-use Rattle.section_core.specs.Writes.{Writes, rows_text}
+use Rattle.reports.specs.Writes.{Writes, rows_text}
 use Rattle.page_core.proofs.Sections.{section-texts}
 use Rattle.page_core.proofs.page.write_loans.Goals as goal
 

@@ -2,7 +2,7 @@ use Rattle.std.proofs.Common.{List, [], ap, subst, sym, ◌++◌, ◌∙◌, ◌
 use Rattle.page_core.specs.declared.frame.TheConstants.{HEAD, NUMBERS_END}
 use Rattle.page_core.specs.Numbers.{numbers_row, seal_row}
 use Rattle.page_core.specs.Pieces.{page_text}
-use Rattle.section_core.specs.Writes.{Writes, rows_text}
+use Rattle.reports.specs.Writes.{Writes, rows_text}
 use Rattle.page_core.proofs.Sections.{section-text}
 use Rattle.page_core.proofs.page.write_numbers.Goals as goal
 

@@ -1,7 +1,7 @@
 use Rattle.std.proofs.Common.{◌++◌}
 use Rattle.page_core.specs.Pages.{lending, locations, posts}
 use Rattle.page_core.proofs.Sections.{first_fails, later_fails, then_rest}
-use Rattle.section_core.proofs.WrittenText.{writes_err}
+use Rattle.reports.proofs.WrittenSections.{writes_err}
 use Rattle.page_core.proofs.page.write_page.Goals as goal
 
 pub returns-in_err-write_locations : goal.returns-in_err-write_locations

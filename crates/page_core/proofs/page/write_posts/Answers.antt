@@ -1,12 +1,12 @@
 use Rattle.std.proofs.Common.{List, [], subst, sym, ℕ, ◌++◌, ◌∷◌}
 use Rattle.page_core.specs.Pieces.{Piece}
 use Rattle.page_core.specs.Pieces.Piece.{markup}
-use Rattle.section_core.specs.Writes.{Writes}
+use Rattle.reports.specs.Writes.{Writes}
 use Rattle.page_core.specs.declared.script.TheConstants.{PAGE_END}
 use Rattle.page_core.proofs.Sections.{end-text}
 use Rattle.page_core.specs.Pages.{entries, stations}
 use Rattle.page_core.proofs.Sections.{first_fails, later_fails, then_rest}
-use Rattle.section_core.proofs.WrittenText.{writes_err}
+use Rattle.reports.proofs.WrittenSections.{writes_err}
 use Rattle.page_core.proofs.page.write_posts.Goals as goal
 
 abbrev end : List Piece

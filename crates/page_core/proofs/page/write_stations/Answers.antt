@@ -3,7 +3,7 @@ use Rattle.std.specs.Prelude.{length}
 use Rattle.std.specs.List.{range_with_len}
 use Rattle.page_core.specs.Stations.{station_row}
 use Rattle.page_core.specs.declared.frame.TheConstants.{STATIONS, TABLE_END}
-use Rattle.section_core.specs.Writes.{Writes}
+use Rattle.reports.specs.Writes.{Writes}
 use Rattle.page_core.proofs.Sections.{section-texts}
 use Rattle.page_core.proofs.page.write_stations.Goals as goal
 

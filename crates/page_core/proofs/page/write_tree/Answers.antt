@@ -2,7 +2,7 @@ use Rattle.std.proofs.Common.{List, ap, subst, sym, ℕ, ◌++◌, ◌∙◌}
 use Rattle.page_core.specs.declared.frame.TheConstants.{TREE, TREE_END}
 use Rattle.page_core.specs.Tree.{tree_lines}
 use Rattle.page_core.specs.TreeRows.{line_row, tree_rows}
-use Rattle.section_core.specs.Writes.{Writes, rows_text}
+use Rattle.reports.specs.Writes.{Writes, rows_text}
 use Rattle.page_core.proofs.Sections.{section-text, texts-of}
 use Rattle.page_core.proofs.page.write_tree.Goals as goal
 

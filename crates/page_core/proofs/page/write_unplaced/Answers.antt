@@ -3,7 +3,7 @@ use Rattle.std.specs.Prelude.{None}
 use Rattle.page_core.specs.Tree.{lines_at}
 use Rattle.page_core.specs.TreeRows.{line_row}
 use Rattle.page_core.specs.declared.frame.TheConstants.{UNPLACED, TREE_END}
-use Rattle.section_core.specs.Writes.{Writes, rows_text}
+use Rattle.reports.specs.Writes.{Writes, rows_text}
 use Rattle.page_core.proofs.Sections.{section-texts}
 use Rattle.page_core.proofs.page.write_unplaced.Goals as goal
 

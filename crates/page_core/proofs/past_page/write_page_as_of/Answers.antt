@@ -2,7 +2,7 @@ use Rattle.std.proofs.Common.{Option, ℕ, subst, sym}
 use Rattle.posting_core.specs.Past.{as_of}
 use Rattle.page_core.specs.Pieces.{page_text}
 use Rattle.page_core.specs.Pages.{page}
-use Rattle.section_core.specs.Writes.{Writes}
+use Rattle.reports.specs.Writes.{Writes}
 use Rattle.page_core.proofs.past_page.write_page_as_of.Goals as goal
 
 pub returns-in-None : goal.returns-in-None

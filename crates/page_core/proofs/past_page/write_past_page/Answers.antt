@@ -2,7 +2,7 @@ use Rattle.std.proofs.Common.{subst}
 use Rattle.page_core.specs.Pieces.{page_text}
 use Rattle.posting_core.specs.Book.{Book}
 use Rattle.page_core.specs.Pages.{page}
-use Rattle.section_core.specs.Writes.{Writes}
+use Rattle.reports.specs.Writes.{Writes}
 use Rattle.page_core.proofs.past_page.write_past_page.Goals as goal
 
 pub returns : goal.returns

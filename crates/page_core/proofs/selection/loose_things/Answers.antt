@@ -4,7 +4,7 @@ use Rattle.std.specs.List.{range_with_len}
 use Rattle.nest_core.specs.Museum.{Museum}
 use Rattle.count_core.proofs.Ranges.{filter_more}
 use Rattle.page_core.specs.Tree.{is_loose_at}
-use Rattle.section_core.proofs.Ranges.{filter_within}
+use Rattle.reports.proofs.Ranges.{filter_within}
 use Rattle.page_core.proofs.selection.loose_things.Goals as goal
 
 pub loop-thing-preserved : goal.loop-thing-preserved

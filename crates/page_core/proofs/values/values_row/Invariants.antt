@@ -3,7 +3,7 @@ use Rattle.std.specs.List.{flat_map}
 use Rattle.reports.specs.Cells.{plain_text}
 use Rattle.page_core.specs.Pieces.{page_text}
 use Rattle.page_core.specs.Tables.{cell}
-use Rattle.section_core.specs.Values.{value_of}
+use Rattle.reports.specs.Values.{value_of}
 use Rattle.page_core.proofs.values.values_row.Given as goal
 
 abbrev pub invariant-loop-i : goal.invariant-loop-i

@@ -1,4 +1,4 @@
-use Rattle.std.proofs.Common.{◌+◌, take, refl, subst, sym, arith}
+use Rattle.std.proofs.Common.{◌+◌, take, subst, sym, arith}
 use Rattle.std.specs.Io.KnownBytes.{Appends}
 use Rattle.reports.proofs.WrittenText.{appends_kept, more_taken, rest_bound}
 use Rattle.reports.proofs.writing.write_text.Goals.{in-Ok, in-Err+else-ne}
@@ -7,14 +7,12 @@ use Rattle.reports.proofs.writing.write_text.Goals as goal
 pub returns-in-Ok-eq0 : goal.returns-in-Ok-eq0
 returns-in-Ok-eq0 g c = (
   c.loop.done + c.in-Ok-eq0.field-0,
-  refl,
   more_taken _ _ _ c.args.text.now
       c.loop.done c.in-Ok-eq0.field-0 c.loop.invariant.1 c.in-Ok-eq0.ensures.bytes,
 )
 
 pub returns-then-ne : goal.returns-then-ne
-returns-then-ne g c =
-    (c.loop.done, refl, appends_kept _ _ _ _ c.loop.invariant.1 c.in-Err.ensures.bytes)
+returns-then-ne g c = (c.loop.done, appends_kept _ _ _ _ c.loop.invariant.1 c.in-Err.ensures.bytes)
 
 pub loop-preserved : goal.loop-preserved
 loop-preserved g c =
@@ -37,4 +35,4 @@ loop-preserved g c =
     ]
 
 pub returns : goal.returns
-returns g c = (c.loop.done, refl, c.loop.invariant.1)
+returns g c = (c.loop.done, c.loop.invariant.1)

@@ -1,7 +1,7 @@
 use Rattle.std.proofs.Common.{string_bytes}
 use Rattle.std.proofs.lemmas.Result.{IfOk-weaker}
 use Rattle.page_core.specs.Away.{away_text}
-use Rattle.section_core.proofs.NumberedRows.{each_read}
+use Rattle.reports.proofs.NumberedRows.{each_read}
 use Rattle.page_core.proofs.away.AwayRows.row.Goals as goal
 
 pub returns : goal.returns

@@ -1,0 +1,10 @@
+use Rattle.reports.proofs.WrittenSections.{stops_longer, writes_after, writes_err}
+use Rattle.reports.proofs.sections.rows.write_rest.Goals as goal
+
+pub returns-in_err-write_rows : goal.returns-in_err-write_rows
+returns-in_err-write_rows g c = writes_err _ _ c.from_residual.result _ _
+    c.from_residual.ensures.1 (stops_longer _ _ _ _ c.in_err-write_rows.ensures)
+
+pub returns : goal.returns
+returns g c =
+    writes_after _ _ _ c.write_text.result _ _ c.in_ok-write_rows.ensures c.write_text.ensures

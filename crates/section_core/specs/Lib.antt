@@ -1,4 +1,0 @@
-pub mod EntryChanges
-pub mod Terms
-pub mod Values
-pub mod Writes
