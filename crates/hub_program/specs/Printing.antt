@@ -4,11 +4,11 @@ use Rattle.std.specs.Prelude.{ℕ, ℤ, ◌≡◌, ◌++◌, [], Bool, IsTrue, L
 use Rattle.std.specs.Prelude.{unwrap_or}
 use Rattle.std.specs.Borrow.{Bor}
 use Rattle.std.specs.Io.KnownBytes.{Appends}
-use Rattle.audit_core.specs.Lines.{audit_lines}
 use Rattle.command_words.specs.Words.{text_of}
 use Rattle.command_words.specs.declared.command.TableWords.{TableWords}
 use Rattle.count_core.specs.declared.count_row.CountRow.{CountRow}
 use Rattle.hub_program.specs.declared.tables.GivenTable.{GivenTable}
+use Rattle.line_files.specs.AuditLines.{audit_lines}
 use Rattle.line_files.specs.Texts.{are_fine, resend_help, resend_text}
 use Rattle.line_files.specs.Notes.{notes}
 use Rattle.nest_core.specs.Museum.{Museum, find_station, station_name_of}

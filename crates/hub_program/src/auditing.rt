@@ -1,6 +1,6 @@
 //! Prints the moves that a count asks for.
 ghost use Rattle.std.specs.Prelude.{◌≡◌, ◌++◌, IfOk, OnOk, string_bytes};
-ghost use Rattle.audit_core.specs.Notes.{audit_notes};
+ghost use Rattle.line_files.specs.AuditNotes.{audit_notes};
 ghost use Rattle.hub_program.specs.Printing.{PrintsAudit};
 
 use crate::fault::CommandFault;
@@ -11,10 +11,10 @@ use crate::numbers::{first_if, first_of};
 use crate::request::day_of;
 use crate::station::station_of;
 use crate::store::ClosedStore;
-use audit_core::{AuditFault, AuditOptions, audit};
 use codes_core::Day;
 use command_words::AuditWords;
 use count_core::CountRow;
+use line_files::{AuditFault, AuditOptions, audit};
 use posting_core::Ledger;
 use sqlite::Start;
 use std::alloc::Global;

@@ -14,3 +14,9 @@ pub mod TrialSteps
 pub mod NoteSteps
 pub mod Replays
 mod WorkedTrials
+pub mod Numbering
+pub mod NoteTexts
+pub mod Answered
+pub mod SeenMoves
+pub mod Accounts
+mod WorkedAudits

@@ -6,3 +6,7 @@ pub mod Checked
 pub mod Gaps
 pub mod Trials
 pub mod Notes
+pub mod Sightings
+pub mod AuditLines
+pub mod AuditNotes
+pub mod SeenMoves

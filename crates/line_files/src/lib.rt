@@ -1,5 +1,6 @@
-//! Compares a station's own file of lines with the record, lists the bad lines of a file, and
-//! returns what lines would get if they were sent.
+//! Compares a station's own file of lines with the record, lists the bad lines of a file, returns
+//! what lines would get if they were sent, and turns a count list into lines that correct the
+//! record.
 //!
 //! [`compare_lines`] returns the [`Standing`] of each line: whether the record has its message, has
 //! another one under its number, or waits for it. [`resend_text`] prints that. [`check_lines`]
@@ -14,6 +15,13 @@
 //! returns a [`Trial`]: a line for each row whose message isn't Applied. The caller drops the
 //! ledger afterwards. [`trial_laws`] has what is true of every trial.
 //!
+//! [`audit`] compares a count list with the record. Its [`AuditText`] has a line for each thing
+//! that the list found elsewhere, which moves the thing to the place where it was seen. A container
+//! is moved like any other thing, and what is in it moves with it. A thing that lies in a container
+//! on record has no line: it is a note. So is a row that names something unknown, a thing a second
+//! time, or a thing that was never placed; and so is each object that the list misses. Other rows
+//! agree with the record. [`audit_laws`] has the laws of every audit.
+//!
 //! Nothing here posts a message to the record.
 //!
 //! ```text
@@ -25,9 +33,14 @@
 //!
 //! note: row 4 would get NotListed: 1987.12.3 in C2 is not on LO2024.2
 //! note: row 8 can't be sent: the station has signed off
+//!
+//! {"station":"GAL","n":6,"message":{"day":"2024-05-01","kind":"move","place":"S1-A","thing":"C2"}}
+//! note: 2001.4.2 was seen at S2 but lies in C1 on record: move it yourself if it was taken out
+//! missing: 2001.4.3 at S1-A on record
 //! ```
 #![tactic(auto)]
 
+mod audits;
 mod checking;
 mod comparison;
 mod finding;
@@ -47,6 +60,7 @@ mod standing;
 mod trial;
 pub mod trial_laws;
 
+pub use audits::{AuditFault, AuditOptions, AuditText, audit, laws as audit_laws};
 pub use checking::{BadLine, CheckedLines, check_help, check_lines, check_text};
 pub use comparison::compare_lines;
 pub use gap::{gap_line, next_number};

@@ -1,6 +1,0 @@
-use Rattle.std.proofs.Common.{◌≡◌, filter, take}
-use Rattle.audit_core.specs.Lines.{is_loose}
-use Rattle.audit_core.proofs.lines.loose.Given as goal
-
-abbrev pub invariant-loop-i : goal.invariant-loop-i
-invariant-loop-i l = l.loose.items ≡ filter (is_loose l.ledger) (take l.i l.seen)

@@ -1,6 +1,0 @@
-use Rattle.std.proofs.Common.{◌≡◌, map, take}
-use Rattle.audit_core.specs.Lines.{move_of}
-use Rattle.audit_core.proofs.lines.moves.Given as goal
-
-abbrev pub invariant-loop-i : goal.invariant-loop-i
-invariant-loop-i l = l.moves.items ≡ map (move_of l.day) (take l.i l.seen)

@@ -1,4 +1,0 @@
-pub mod Sightings
-pub mod Lines
-pub mod Notes
-pub mod SeenMoves

@@ -1,0 +1,8 @@
+use Rattle.std.proofs.Common.{◌≡◌, ◌++◌, flat_map, string_bytes, take}
+use Rattle.line_files.specs.AuditNotes.{missing_note}
+use Rattle.line_files.proofs.audits.notes.push_missing.Given as goal
+
+abbrev pub invariant-loop-i : goal.invariant-loop-i
+invariant-loop-i l =
+    string_bytes l.text
+    ≡ string_bytes l.fn.text ++ flat_map (missing_note l.ledger) (take l.i l.missing)
