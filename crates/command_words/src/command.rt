@@ -135,21 +135,74 @@ pub struct AuditWords<'a> {
     pub list: &'a str,
 }
 
-/// A command with its values, as the words have them. If no store is named, the record is in
-/// memory.
+/// The arguments of `replay`. If no store is named, the record is in memory. With `progress` the
+/// command reports its progress on standard error, with `strict` it fails if any line is bad,
+/// refused or not applied, and with `why` it explains each verdict other than Applied at the end,
+/// on standard error.
+#[derive(Clone, Copy)]
+pub struct ReplayWords<'a> {
+    pub setup: &'a str,
+    pub store: Option<&'a str>,
+    pub progress: bool,
+    pub strict: bool,
+    pub why: bool,
+}
+
+/// The arguments of `gap`. `by` is the name in the message.
+#[derive(Clone, Copy)]
+pub struct GapWords<'a> {
+    pub setup: &'a str,
+    pub store: &'a str,
+    pub station: &'a str,
+    pub by: &'a str,
+}
+
+/// The arguments of `resend`. `file` has the station's own lines.
+#[derive(Clone, Copy)]
+pub struct ResendWords<'a> {
+    pub setup: &'a str,
+    pub store: &'a str,
+    pub station: &'a str,
+    pub file: &'a str,
+}
+
+/// The arguments of `seal`. `upto` is the number of the last sealed entry, and the file `check` has
+/// seals to check.
+#[derive(Clone, Copy)]
+pub struct SealWords<'a> {
+    pub setup: &'a str,
+    pub store: &'a str,
+    pub upto: Option<&'a str>,
+    pub check: Option<&'a str>,
+}
+
+/// The arguments of `receipt`. `entry` is the number of the entry, and `upto` that of the last
+/// sealed entry.
+#[derive(Clone, Copy)]
+pub struct ReceiptWords<'a> {
+    pub setup: &'a str,
+    pub store: &'a str,
+    pub entry: &'a str,
+    pub upto: Option<&'a str>,
+}
+
+/// The arguments of `page`. Loans that are overdue on the day `on` are marked, and `upto` is the
+/// number of the last entry.
+#[derive(Clone, Copy)]
+pub struct PageWords<'a> {
+    pub setup: &'a str,
+    pub store: &'a str,
+    pub on: Option<&'a str>,
+    pub upto: Option<&'a str>,
+}
+
+/// A command with its values, as the words have them.
 #[derive(Drop)]
 pub enum Chosen<'a> {
-    /// Answers the lines of standard input. With `progress` it reports its progress on standard
-    /// error, with `strict` it fails if any line is bad, refused or not applied, and with `why` it
-    /// explains each verdict other than Applied at the end, on standard error.
-    Replay {
-        setup: &'a str,
-        store: Option<&'a str>,
-        progress: bool,
-        strict: bool,
-        why: bool,
-    },
-    /// Takes one file of lines for each station, in the setup's order.
+    /// Answers the lines of standard input.
+    Replay(ReplayWords<'a>),
+    /// Takes one file of lines for each station, in the setup's order. If no store is named, the
+    /// record is in memory.
     Serve {
         setup: &'a str,
         store: Option<&'a str>,
@@ -167,20 +220,10 @@ pub enum Chosen<'a> {
         counts: Option<&'a str>,
         lines: Option<&'a str>,
     },
-    /// Prints a line that fills the station's next number. `by` is the name in its message.
-    Gap {
-        setup: &'a str,
-        store: &'a str,
-        station: &'a str,
-        by: &'a str,
-    },
+    /// Prints a line that fills the station's next number.
+    Gap(GapWords<'a>),
     /// Compares the lines of a station's own file with the record.
-    Resend {
-        setup: &'a str,
-        store: &'a str,
-        station: &'a str,
-        file: &'a str,
-    },
+    Resend(ResendWords<'a>),
     /// Prints a line that moves each thing of a count list to where it was seen.
     Audit(AuditWords<'a>),
     /// Migrates a store of the previous version to this version.
@@ -196,33 +239,17 @@ pub enum Chosen<'a> {
     },
     /// Prints the seal of the first `upto` entries, or of all entries. With `check` it checks the
     /// seals in a file instead.
-    Seal {
-        setup: &'a str,
-        store: &'a str,
-        upto: Option<&'a str>,
-        check: Option<&'a str>,
-    },
+    Seal(SealWords<'a>),
     /// Prints the receipt of an entry under the seal of the first `upto` entries, or of all.
-    Receipt {
-        setup: &'a str,
-        store: &'a str,
-        entry: &'a str,
-        upto: Option<&'a str>,
-    },
+    Receipt(ReceiptWords<'a>),
     /// Checks the receipt in a file. Neither an entry nor `upto` should be given with it.
     CheckReceipt {
         file: &'a str,
         entry: Option<&'a str>,
         upto: Option<&'a str>,
     },
-    /// Prints the record, or its first `upto` entries, as a page of HTML. Loans that are overdue on
-    /// the day `on` are marked.
-    Page {
-        setup: &'a str,
-        store: &'a str,
-        on: Option<&'a str>,
-        upto: Option<&'a str>,
-    },
+    /// Prints the record, or its first `upto` entries, as a page of HTML.
+    Page(PageWords<'a>),
     /// Writes the record to a new SQLite database, for other programs.
     Export {
         setup: &'a str,

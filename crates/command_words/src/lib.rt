@@ -8,7 +8,7 @@
 //! reads the words of a report that is typed at a desk.
 //!
 //! [`page_of`] returns the help page of a [`Topic`]. A [`Meaning`] explains a word: what it means,
-//! its usual cause, and what to do. [`VERDICTS`] has those of the verdicts. [`DESK_HELP`] and
+//! its usual cause, and what to do. [`list_verdicts`] returns those of the verdicts. [`DESK_HELP`] and
 //! [`DESK_CARDS`] are the help and the cards of a desk. [`nearest_explained`] finds the word that
 //! is nearest to a text, for a user who mistypes one.
 //!
@@ -77,12 +77,12 @@ mod word_tables;
 pub mod words;
 
 pub use command::{
-    Asked, AuditWords, Chosen, DeskWords, Entries, Format, Report, TableWords, WordsFault,
+    Asked, AuditWords, Chosen, DeskWords, Entries, Format, GapWords, PageWords, ReceiptWords,
+    ReplayWords, Report, ResendWords, SealWords, TableWords, WordsFault,
 };
 pub use desk_pages::{DESK_CARDS, DESK_HELP};
 pub use meaning::Meaning;
 pub use nearest::Nearest;
 pub use pages::page_of;
 pub use topic::Topic;
-pub use verdicts::VERDICTS;
-pub use word_tables::nearest_explained;
+pub use word_tables::{list_verdicts, nearest_explained};

@@ -10,7 +10,7 @@ ghost use Rattle.command_words.specs.Words.{texts_of};
 
 use crate::reading::{boxed, files_of, is_set, one, read, record_of};
 use crate::shapes::Name;
-use crate::{AuditWords, Chosen, TableWords, WordsFault};
+use crate::{AuditWords, Chosen, GapWords, ResendWords, TableWords, WordsFault};
 use clap::ArgMatches;
 use std::alloc::Global;
 
@@ -86,12 +86,12 @@ pub(crate) fn gap<'a>(alloc: Global, words: &'a [&'a str]) -> Result<Box<Chosen<
     match (files.setup, files.store, station, by) {
         (Some(setup), Some(store), Some(station), Some(by)) => boxed(
             alloc,
-            Chosen::Gap {
+            Chosen::Gap(GapWords {
                 setup,
                 store,
                 station,
                 by,
-            },
+            }),
         ),
         _ => Err(WordsFault::Missing),
     }
@@ -109,12 +109,12 @@ pub(crate) fn resend<'a>(alloc: Global, words: &'a [&'a str]) -> Result<Box<Chos
     match (files.setup, files.store, station, file) {
         (Some(setup), Some(store), Some(station), Some(file)) => boxed(
             alloc,
-            Chosen::Resend {
+            Chosen::Resend(ResendWords {
                 setup,
                 store,
                 station,
                 file,
-            },
+            }),
         ),
         _ => Err(WordsFault::Missing),
     }

@@ -7,7 +7,7 @@ ghost use Rattle.command_words.specs.Words.{Chooses, IsNamed, texts_of};
 
 use crate::reading::{boxed, files_of, one, read, record_of};
 use crate::shapes::Name;
-use crate::{Chosen, WordsFault};
+use crate::{Chosen, ReceiptWords, SealWords, WordsFault};
 use std::alloc::Global;
 
 pub(crate) fn seal<'a>(alloc: Global, words: &'a [&'a str]) -> Result<Box<Chosen<'a>>, WordsFault>
@@ -22,12 +22,12 @@ pub(crate) fn seal<'a>(alloc: Global, words: &'a [&'a str]) -> Result<Box<Chosen
     let record = record_of(files)?;
     boxed(
         alloc,
-        Chosen::Seal {
+        Chosen::Seal(SealWords {
             setup: record.setup,
             store: record.store,
             upto,
             check,
-        },
+        }),
     )
 }
 
@@ -50,12 +50,12 @@ pub(crate) fn receipt<'a>(
     match (files.setup, files.store, entry) {
         (Some(setup), Some(store), Some(entry)) => boxed(
             alloc,
-            Chosen::Receipt {
+            Chosen::Receipt(ReceiptWords {
                 setup,
                 store,
                 entry,
                 upto,
-            },
+            }),
         ),
         _ => Err(WordsFault::Missing),
     }

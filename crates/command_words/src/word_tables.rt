@@ -67,6 +67,11 @@ fn words_of(subject: Subject) -> &'static [Meaning] {
     }
 }
 
+/// Returns the meanings of the verdicts, in the order of the verdicts.
+pub fn list_verdicts() -> &'static [Meaning] {
+    words_of(Subject::Verdicts)
+}
+
 /// Returns the explained word that is nearest to the text, and its distance. Fault: AllocError, if
 /// memory runs out.
 pub fn nearest_explained(alloc: Global, text: &str) -> Result<Option<Nearest>, AllocError>

@@ -19,7 +19,7 @@ use crate::reading::{
 use crate::report_reading::{read_report, read_report_and, read_report_and_flag};
 use crate::sealing::{receipt, seal};
 use crate::shapes::{self, Name, find_command};
-use crate::{Asked, Chosen, DeskWords, WordsFault};
+use crate::{Asked, Chosen, DeskWords, PageWords, ReplayWords, WordsFault};
 use clap::ArgMatches;
 use std::alloc::{AllocError, Global};
 
@@ -96,13 +96,13 @@ fn replay<'a>(alloc: Global, words: &'a [&'a str]) -> Result<Box<Chosen<'a>>, Wo
     match files.setup {
         Some(setup) => boxed(
             alloc,
-            Chosen::Replay {
+            Chosen::Replay(ReplayWords {
                 setup,
                 store: files.store,
                 progress,
                 strict,
                 why,
-            },
+            }),
         ),
         None => Err(WordsFault::Missing),
     }
@@ -243,12 +243,12 @@ fn page<'a>(alloc: Global, words: &'a [&'a str]) -> Result<Box<Chosen<'a>>, Word
     let record = record_of(files)?;
     boxed(
         alloc,
-        Chosen::Page {
+        Chosen::Page(PageWords {
             setup: record.setup,
             store: record.store,
             on,
             upto,
-        },
+        }),
     )
 }
 

@@ -30,21 +30,21 @@ use Rattle.work_core.specs.declared.work.Work.{Work}
 
 -- The path of the store that the words name. Its record is the command's.
 abbrev pub store_of : Chosen → Option (List ℕ)
-store_of (Replay setup store progress strict why) = text_of store
+store_of (Replay words) = text_of words.store
 store_of (Serve setup store feeds) = text_of store
 store_of (Desk words) = Some words.store.now
 store_of Cards = None
 store_of (Lines words) = text_of words.store
 store_of (Check setup counts lines) = None
-store_of (Gap setup store station by) = Some store.now
-store_of (Resend setup store station file) = Some store.now
+store_of (Gap words) = Some words.store.now
+store_of (Resend words) = Some words.store.now
 store_of (Audit words) = Some words.store.now
 store_of (Migrate setup store) = Some store.now
 store_of (Copy setup store to) = Some store.now
-store_of (Seal setup store upto check) = Some store.now
-store_of (Receipt setup store entry upto) = Some store.now
+store_of (Seal words) = Some words.store.now
+store_of (Receipt words) = Some words.store.now
 store_of (CheckReceipt file entry upto) = None
-store_of (Page setup store on upto) = Some store.now
+store_of (Page words) = Some words.store.now
 store_of (Export setup store to) = Some store.now
 store_of (Grow setup store check) = Some store.now
 store_of (Setup store) = Some store.now

@@ -13,21 +13,21 @@ use crate::explain::explain;
 use crate::exporting::exported;
 use crate::fault::CommandFault;
 use crate::files::read_setup;
-use crate::gap::{GapWords, fill_gap};
+use crate::gap::fill_gap;
 use crate::growing::{grown, listed};
 use crate::help::help;
 use crate::lines::write_line;
-use crate::page::{PageWords, give_page};
+use crate::page::give_page;
 use crate::progress::Progress;
 use crate::reporting::reported;
-use crate::resending::{ResendWords, compare_file};
-use crate::sealing::{ReceiptWords, SealWords, check_given, give_receipt, seal_record};
+use crate::resending::compare_file;
+use crate::sealing::{check_given, give_receipt, seal_record};
 use crate::serving::served;
 use crate::store::{self, Begins, ClosedStore, closed_if, open_if};
 use crate::tables::print_lines;
 use crate::work::over_store;
 use command_words::words::chosen;
-use command_words::{Chosen, DESK_CARDS};
+use command_words::{Chosen, DESK_CARDS, ReplayWords};
 use hub_core::{Tally, Watch, run};
 use sqlite::Start;
 use std::io::{BufRead, Write};
@@ -104,20 +104,7 @@ fn perform<
     ensures { IfOk result (λ ending. kept_in ending ≡ store_of chosen.now) }
 {
     match chosen {
-        Chosen::Replay {
-            setup,
-            store,
-            progress,
-            strict,
-            why,
-        } => {
-            let wanted = Replay {
-                setup,
-                store: *store,
-                progress: *progress,
-                strict: *strict,
-                why: *why,
-            };
+        Chosen::Replay(wanted) => {
             replayed(rt, threads, wanted, start, input, output, errors, notes)
         }
         Chosen::Explain { name } => {
@@ -154,52 +141,17 @@ fn perform<
             let closed = copied(rt, setup, store, to, start, again, output)?;
             Ok(Ending::Done(Some(closed)))
         }
-        Chosen::Seal {
-            setup,
-            store,
-            upto,
-            check,
-        } => {
-            let wanted = SealWords {
-                setup,
-                store,
-                upto: *upto,
-                check: *check,
-            };
-            seal_record(rt, threads, &wanted, start, input, output, notes)
-        }
-        Chosen::Receipt {
-            setup,
-            store,
-            entry,
-            upto,
-        } => {
-            let wanted = ReceiptWords {
-                setup,
-                store,
-                entry,
-                upto: *upto,
-            };
-            let closed = give_receipt(rt, &wanted, start, output)?;
+        Chosen::Seal(wanted) => seal_record(rt, threads, wanted, start, input, output, notes),
+        Chosen::Receipt(wanted) => {
+            let closed = give_receipt(rt, wanted, start, output)?;
             Ok(Ending::Done(Some(closed)))
         }
         Chosen::CheckReceipt { file, entry, upto } => {
             let others = entry.is_some() || upto.is_some();
             check_given(rt, file, others, input, output, notes)
         }
-        Chosen::Page {
-            setup,
-            store,
-            on,
-            upto,
-        } => {
-            let wanted = PageWords {
-                setup,
-                store,
-                on: *on,
-                upto: *upto,
-            };
-            let closed = give_page(rt, threads, &wanted, start, output)?;
+        Chosen::Page(wanted) => {
+            let closed = give_page(rt, threads, wanted, start, output)?;
             Ok(Ending::Done(Some(closed)))
         }
         Chosen::Export { setup, store, to } => {
@@ -227,35 +179,11 @@ fn perform<
             check_files(rt, *setup, *counts, *lines, output)?;
             Ok(Ending::Done(None))
         }
-        Chosen::Gap {
-            setup,
-            store,
-            station,
-            by,
-        } => {
-            let wanted = GapWords {
-                setup,
-                store,
-                station,
-                by,
-            };
-            let closed = fill_gap(rt, &wanted, start, output)?;
+        Chosen::Gap(wanted) => {
+            let closed = fill_gap(rt, wanted, start, output)?;
             Ok(Ending::Done(Some(closed)))
         }
-        Chosen::Resend {
-            setup,
-            store,
-            station,
-            file,
-        } => {
-            let wanted = ResendWords {
-                setup,
-                store,
-                station,
-                file,
-            };
-            compare_file(rt, &wanted, start, input, output, notes)
-        }
+        Chosen::Resend(wanted) => compare_file(rt, wanted, start, input, output, notes),
         Chosen::Audit(words) => {
             let closed = audit_list(rt, threads, words, start, output, notes)?;
             Ok(Ending::Done(Some(closed)))
@@ -265,16 +193,6 @@ fn perform<
         ),
         Chosen::Help { topic } => Ok(Ending::Printed(help(rt.alloc(), *topic, output, errors))),
     }
-}
-
-/// The arguments of a replay.
-#[derive(Clone, Copy)]
-struct Replay<'a> {
-    setup: &'a str,
-    store: Option<&'a str>,
-    progress: bool,
-    strict: bool,
-    why: bool,
 }
 
 /// Answers the lines of the input. If `progress` is wanted, prints the progress to `errors`.
@@ -288,14 +206,14 @@ fn replayed<
 >(
     rt: &HostRuntime,
     threads: &T,
-    wanted: Replay<'a>,
+    wanted: &ReplayWords<'a>,
     start: S,
     input: &mut R,
     output: &mut W,
     errors: &mut E,
     notes: &mut String,
 ) -> Result<Ending<'a>, CommandFault>
-    ensures { IfOk result (λ ending. kept_in ending ≡ text_of wanted.entry.store) }
+    ensures { IfOk result (λ ending. kept_in ending ≡ text_of wanted.now.store) }
 {
     let (store, is_clean) = if wanted.progress {
         let mut progress = Progress::new(rt, errors);
@@ -334,14 +252,14 @@ fn watched<
 >(
     rt: &HostRuntime,
     threads: &T,
-    wanted: Replay<'a>,
+    wanted: &ReplayWords<'a>,
     start: S,
     watch: &mut V,
     input: &mut R,
     output: &mut W,
     notes: &mut String,
 ) -> Result<Option<ClosedStore<'a>>, CommandFault>
-    ensures { IfOk result (λ kept. path_of kept ≡ text_of wanted.entry.store) }
+    ensures { IfOk result (λ kept. path_of kept ≡ text_of wanted.now.store) }
 {
     let setup = read_setup(rt, rt.alloc(), wanted.setup)?;
     let store = open_if(rt, wanted.store, start, Begins::Record)?;

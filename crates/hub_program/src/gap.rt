@@ -9,20 +9,12 @@ use crate::numbers::fault_of_gap;
 use crate::station::{person_of, station_of};
 use crate::store::ClosedStore;
 use codes_core::Name;
+use command_words::GapWords;
 use line_files::gap_line;
 use posting_core::Ledger;
 use sqlite::Start;
 use std::alloc::Global;
 use std::io::Write;
-
-/// The arguments of `gap`.
-#[derive(Clone, Copy)]
-pub struct GapWords<'a> {
-    pub setup: &'a str,
-    pub store: &'a str,
-    pub station: &'a str,
-    pub by: &'a str,
-}
 
 /// Prints the line that fills the next number of a station.
 ///

@@ -4,7 +4,7 @@ use crate::ending::{refuse, status};
 use crate::fault::CommandFault;
 use crate::lines::write_line;
 use command_words::words::chosen;
-use command_words::{Topic, VERDICTS, page_of};
+use command_words::{Topic, list_verdicts, page_of};
 use std::alloc::Global;
 use std::io::Write;
 
@@ -52,7 +52,7 @@ const BLANKS: &str = "                 ";
 
 /// Prints a line for each verdict.
 fn print_verdicts<W: Write>(output: &mut W) -> Result<(), CommandFault> {
-    for verdict in VERDICTS {
+    for verdict in list_verdicts() {
         let blanks = BLANKS.get(verdict.word.len()..).unwrap_or("");
         for part in ["  ", verdict.word, blanks, "  ", verdict.means, "\n"] {
             write_line(output, part)?;

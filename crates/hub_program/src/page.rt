@@ -10,6 +10,7 @@ use crate::judging::read_record;
 use crate::request::{day_if, number_if};
 use crate::store::ClosedStore;
 use codes_core::Day;
+use command_words::PageWords;
 use page_core::write_page_as_of;
 use posting_core::Ledger;
 use reports::PrintFault;
@@ -17,15 +18,6 @@ use sqlite::Start;
 use std::alloc::Global;
 use std::io::Write;
 use std::thread::Threads;
-
-/// The arguments of `page`.
-#[derive(Clone, Copy)]
-pub struct PageWords<'a> {
-    pub setup: &'a str,
-    pub store: &'a str,
-    pub on: Option<&'a str>,
-    pub upto: Option<&'a str>,
-}
 
 /// Prints the page of the record.
 ///

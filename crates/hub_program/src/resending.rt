@@ -9,21 +9,13 @@ use crate::files::read_named;
 use crate::judging::read_record;
 use crate::lines::write_line;
 use crate::station::station_of;
+use command_words::ResendWords;
 use line_files::resend_text;
 use posting_core::Ledger;
 use sqlite::Start;
 use std::alloc::Global;
 use std::io::{BufRead, Write};
 use table_core::past_mark;
-
-/// The arguments of `resend`.
-#[derive(Clone, Copy)]
-pub struct ResendWords<'a> {
-    pub setup: &'a str,
-    pub store: &'a str,
-    pub station: &'a str,
-    pub file: &'a str,
-}
 
 /// Compares the lines of a station's file with the record, and prints how each line stands to it. A
 /// byte order mark before the first line is dropped. The command is well only if each line is

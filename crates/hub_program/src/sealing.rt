@@ -14,6 +14,7 @@ use crate::judging::read_record;
 use crate::lines::write_line;
 use crate::store::ClosedStore;
 use codes_core::add_on_one_line;
+use command_words::{ReceiptWords, SealWords};
 use posting_core::{EntryNo, Ledger};
 use seal_core::{
     ReceiptFault, SealFault, check_receipt_file, check_seals, receipt_line, seal_line,
@@ -23,24 +24,6 @@ use std::alloc::Global;
 use std::io::{BufRead, Write};
 use std::thread::Threads;
 use table_core::past_mark;
-
-/// The arguments of `seal`.
-#[derive(Clone, Copy)]
-pub struct SealWords<'a> {
-    pub setup: &'a str,
-    pub store: &'a str,
-    pub upto: Option<&'a str>,
-    pub check: Option<&'a str>,
-}
-
-/// The arguments of `receipt`.
-#[derive(Clone, Copy)]
-pub struct ReceiptWords<'a> {
-    pub setup: &'a str,
-    pub store: &'a str,
-    pub entry: &'a str,
-    pub upto: Option<&'a str>,
-}
 
 /// Prints the seal of the record, or checks the seals in a file. The exit status is 0 only if the
 /// file has a seal, and each line that is not empty is a seal that holds.
